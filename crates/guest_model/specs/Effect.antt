@@ -1,0 +1,167 @@
+-- What one instruction does to a machine (RISC-V unprivileged manual, chapters 2 and 13: RV32I and M).
+use Rattle.std.specs.Prelude.{ℕ, ◌+◌, ◌*◌, ◌/◌, ◌%◌, ◌==◌, Option, Some, None, if◌then◌else◌}
+use Rattle.rv_isa.specs.Word.{unsigned_of}
+use Rattle.rv_isa.specs.Table.{Fields}
+use Rattle.rv_isa.specs.Decoded.{decoded}
+use Rattle.rv_isa.specs.Arithmetic.{alu_of}
+use Rattle.rv_isa.specs.Kinds.{is_taken, loaded_of, size_of, ends_block}
+use Rattle.rv_isa.specs.declared.op.Op.{Op}
+use Rattle.rv_isa.specs.declared.op.Op.TheVariants.{Lui, Auipc, Jal, Jalr, Beq, Bne, Blt, Bge, Bltu, Bgeu, Lb, Lh, Lw, Lbu, Lhu, Sb, Sh, Sw, Addi, Slti, Sltiu, Xori, Ori, Andi, Slli, Srli, Srai, Add, Sub, Sll, Slt, Sltu, Xor, Srl, Sra, Or, And, Fence, Ecall, Ebreak, Mul, Mulh, Mulhsu, Mulhu, Div, Divu, Rem, Remu}
+use Rattle.guest_model.specs.Areas.{wrap}
+use Rattle.guest_model.specs.Space.{Space, read_number, write_number}
+use Rattle.guest_model.specs.Machine.{Machine, register, put, following}
+use Rattle.guest_model.specs.declared.Access.TheVariants.{Read, Execute}
+
+pub data Effect : Type 0 where
+  -- the instruction completed
+  Next : (next : Machine) → Effect
+  -- it asks for a call; the machine stays
+  Call : Effect
+  -- it faults; the machine stays
+  Fault : (kind : ℕ) → Effect
+
+-- the kinds of faults, by the numbers of their signals (Linux, signal(7)): SIGILL, SIGTRAP, SIGBUS, SIGSEGV
+abbrev pub illegal : ℕ
+illegal = 4
+
+abbrev pub breakpoint : ℕ
+breakpoint = 5
+
+abbrev pub misaligned : ℕ
+misaligned = 7
+
+abbrev pub access : ℕ
+access = 11
+
+-- the value of rs1, the value of rs2, the immediate modulo 2^32
+abbrev pub rs1_value : Machine → Fields → ℕ
+rs1_value m i = register m i.rs1
+
+abbrev pub rs2_value : Machine → Fields → ℕ
+rs2_value m i = register m i.rs2
+
+abbrev pub immediate : Fields → ℕ
+immediate i = unsigned_of i.imm
+
+-- where a load or store goes, and where a jump by a register goes before its lowest bit is cleared
+abbrev pub address : Machine → Fields → ℕ
+address m i = wrap (rs1_value m i + immediate i)
+
+-- where a branch or a jump from pc goes
+abbrev pub target : Machine → Fields → ℕ
+target m i = wrap (m.pc + immediate i)
+
+abbrev pub even : ℕ → ℕ
+even a = 2 * (a / 2)
+
+-- the machine at another pc, after this instruction
+abbrev pub moved : Machine → Fields → ℕ → Machine
+moved m i next = record m { pc = next; fresh = ends_block i.op }
+
+-- the same with a value in rd
+abbrev pub written : Machine → Fields → ℕ → ℕ → Machine
+written m i value next = record m { pc = next; registers = put i.rd value m.registers; fresh = ends_block i.op }
+
+-- rd gets a value
+abbrev pub writes : Machine → Fields → ℕ → Effect
+writes m i value = Next (written m i value (following m))
+
+-- the arithmetic and logic instructions, from rs1 and a second operand
+abbrev pub writes_some : Machine → Fields → Option ℕ → Effect
+writes_some m i None = Next (moved m i (following m))
+writes_some m i (Some value) = writes m i value
+
+abbrev pub computes : Machine → Fields → ℕ → Effect
+computes m i operand = writes_some m i (alu_of i.op (rs1_value m i) operand)
+
+-- pc gets the target, which must be a multiple of 4 (2.2), and rd the address behind the jump
+abbrev pub jumps : Machine → Fields → ℕ → Effect
+jumps m i to = if to % 4 == 0 then Next (written m i (following m) to) else Fault misaligned
+
+-- the target counts only where the branch is taken
+abbrev pub branches : Machine → Fields → Effect
+branches m i =
+    if is_taken i.op (rs1_value m i) (rs2_value m i)
+    then (if target m i % 4 == 0 then Next (moved m i (target m i)) else Fault misaligned)
+    else Next (moved m i (following m))
+
+-- rd gets what was read
+abbrev pub loads_some : Machine → Fields → Option ℕ → Effect
+loads_some m i None = Fault access
+loads_some m i (Some n) = writes m i (loaded_of i.op n)
+
+abbrev pub loads : Machine → Fields → Effect
+loads m i = loads_some m i (read_number Read m.space (address m i) (size_of i.op))
+
+-- the low bytes of rs2 go to memory
+abbrev pub stores_some : Machine → Fields → Option Space → Effect
+stores_some m i None = Fault access
+stores_some m i (Some s) = Next (record m { pc = following m; space = s; fresh = ends_block i.op })
+
+abbrev pub stores : Machine → Fields → Effect
+stores m i = stores_some m i (write_number m.space (address m i) (size_of i.op) (rs2_value m i))
+
+-- one row for each instruction
+abbrev pub effect_by : Op → Machine → Fields → Effect
+effect_by Lui m i = writes m i (immediate i)
+effect_by Auipc m i = writes m i (target m i)
+effect_by Jal m i = jumps m i (target m i)
+effect_by Jalr m i = jumps m i (even (address m i))
+effect_by Beq m i = branches m i
+effect_by Bne m i = branches m i
+effect_by Blt m i = branches m i
+effect_by Bge m i = branches m i
+effect_by Bltu m i = branches m i
+effect_by Bgeu m i = branches m i
+effect_by Lb m i = loads m i
+effect_by Lh m i = loads m i
+effect_by Lw m i = loads m i
+effect_by Lbu m i = loads m i
+effect_by Lhu m i = loads m i
+effect_by Sb m i = stores m i
+effect_by Sh m i = stores m i
+effect_by Sw m i = stores m i
+effect_by Addi m i = computes m i (immediate i)
+effect_by Slti m i = computes m i (immediate i)
+effect_by Sltiu m i = computes m i (immediate i)
+effect_by Xori m i = computes m i (immediate i)
+effect_by Ori m i = computes m i (immediate i)
+effect_by Andi m i = computes m i (immediate i)
+effect_by Slli m i = computes m i (immediate i)
+effect_by Srli m i = computes m i (immediate i)
+effect_by Srai m i = computes m i (immediate i)
+effect_by Add m i = computes m i (rs2_value m i)
+effect_by Sub m i = computes m i (rs2_value m i)
+effect_by Sll m i = computes m i (rs2_value m i)
+effect_by Slt m i = computes m i (rs2_value m i)
+effect_by Sltu m i = computes m i (rs2_value m i)
+effect_by Xor m i = computes m i (rs2_value m i)
+effect_by Srl m i = computes m i (rs2_value m i)
+effect_by Sra m i = computes m i (rs2_value m i)
+effect_by Or m i = computes m i (rs2_value m i)
+effect_by And m i = computes m i (rs2_value m i)
+effect_by Fence m i = Next (moved m i (following m))
+effect_by Ecall m i = Call
+effect_by Ebreak m i = Fault breakpoint
+effect_by Mul m i = computes m i (rs2_value m i)
+effect_by Mulh m i = computes m i (rs2_value m i)
+effect_by Mulhsu m i = computes m i (rs2_value m i)
+effect_by Mulhu m i = computes m i (rs2_value m i)
+effect_by Div m i = computes m i (rs2_value m i)
+effect_by Divu m i = computes m i (rs2_value m i)
+effect_by Rem m i = computes m i (rs2_value m i)
+effect_by Remu m i = computes m i (rs2_value m i)
+
+-- what an instruction does, or the word that has no row
+abbrev pub effect_of_instruction : Machine → Option Fields → Effect
+effect_of_instruction m None = Fault illegal
+effect_of_instruction m (Some i) = effect_by i.op m i
+
+-- what a fetched word does, or the fetch that is denied
+abbrev pub effect_of_word : Machine → Option ℕ → Effect
+effect_of_word m None = Fault access
+effect_of_word m (Some word) = effect_of_instruction m (decoded word)
+
+-- the effect of the instruction at pc
+unfoldable pub effect_of : Machine → Effect
+effect_of m = effect_of_word m (read_number Execute m.space m.pc 4)

@@ -1,0 +1,39 @@
+-- A guest's machine: one hart of RV32IM with its memory (RISC-V unprivileged manual, 2.1).
+use Rattle.std.specs.Prelude.{ℕ, ◌+◌, ◌==◌, Bool, List, Option, slice_index, slice_set, if◌then◌else◌, option_and_then, refl}
+use Rattle.std.specs.Coded.{Coded, coded_ℕ, coded_bool, coded_list, coded×, code_by}
+use Rattle.rv_isa.specs.Table.{Fields}
+use Rattle.rv_isa.specs.Decoded.{decoded}
+use Rattle.guest_model.specs.Areas.{wrap}
+use Rattle.guest_model.specs.Space.{Space, read_number, space_code}
+use Rattle.guest_model.specs.declared.Access.TheVariants.{Execute}
+
+pub record Machine : Type 0 where
+  -- the address of the next instruction
+  pub pc : ℕ
+  -- x0 to x31, each of 32 bits; x0 is 0
+  pub registers : List ℕ
+  pub space : Space
+  -- the last instruction ended a block, or none has run
+  pub fresh : Bool
+
+-- the value of a register
+abbrev pub register : Machine → ℕ → ℕ
+register m n = slice_index m.registers n
+
+-- the registers with a value in rd; a write to x0 is dropped
+abbrev pub put : ℕ → ℕ → List ℕ → List ℕ
+put rd value registers = if rd == 0 then registers else slice_set registers rd value
+
+-- the address of the instruction behind the one at pc
+abbrev pub following : Machine → ℕ
+following m = wrap (m.pc + 4)
+
+-- the instruction at pc: the four bytes there are in executable areas, and their word has a row in the table
+abbrev pub instruction_at : Machine → Option Fields
+instruction_at m = option_and_then decoded (read_number Execute m.space m.pc 4)
+
+-- how a machine is stored as plain data
+abbrev pub machine_code : Coded Machine
+machine_code = code_by (ℕ × (List ℕ × (Space × Bool))) (coded× coded_ℕ (coded× (coded_list coded_ℕ) (coded× space_code coded_bool)))
+    (λ m. (m.pc, (m.registers, (m.space, m.fresh))))
+    (λ p. record { pc = p.0; registers = p.1.0; space = p.1.1.0; fresh = p.1.1.1 }) (λ _. refl)

@@ -1,0 +1,11 @@
+//! A guest: one hart of RV32IM with its memory.
+#![tactic(auto)]
+
+mod guest;
+mod load;
+mod memory;
+mod step;
+
+pub use guest::Guest;
+pub use load::LoadFault;
+pub use step::{End, FaultKind, Stepped};

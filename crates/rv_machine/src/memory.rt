@@ -1,0 +1,1 @@
+// The memory of a guest that is one file.
