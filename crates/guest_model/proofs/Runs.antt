@@ -48,3 +48,21 @@ over_stays step n k x s e h = after-add step n k x ∙ ap (after step k) h ∙ a
 pub along_stays : {S E A : Type 0} (step : S → Stand S E) (f : S → List A) (n k : ℕ) (x : Stand S E) (s : S) (e : E) → after step n x ≡ Over s e → along step f (n + k) x ≡ along step f n x
 along_stays step f n k x s e h =
     along-add step f n k x ∙ ap (λ y. along step f n x ++ along step f k y) h ∙ ap (λ ys. along step f n x ++ ys) (along-over step f k s e) ∙ append-nil (along step f n x)
+
+-- one step more of a run that goes on
+pub after-next : {S E : Type 0} (step : S → Stand S E) (n : ℕ) (x : Stand S E) (q : S) → after step n x ≡ Goes q → after step (n + 1) x ≡ step q
+after-next step n x q h = rw (add-one n) (after-suc step n x ∙ ap (advance step) h)
+
+pub along-next : {S E A : Type 0} (step : S → Stand S E) (f : S → List A) (n : ℕ) (x : Stand S E) (q : S) → after step n x ≡ Goes q → along step f (n + 1) x ≡ along step f n x ++ f q
+along-next step f n x q h = rw (add-one n) (along-suc step f n x ∙ ap (λ y. along step f n x ++ here f y) h)
+
+-- a run that ends at its next step, within some number of steps
+pub after-last : {S E : Type 0} (step : S → Stand S E) (n most : ℕ) (x : Stand S E) (q r : S) (e : E) → n < most → after step n x ≡ Goes q → step q ≡ Over r e → after step most x ≡ Over r e
+after-last step n most x q r e lt h ends =
+    let size : n + 1 + (most - (n + 1)) ≡ most = omega arith in
+    ap (λ (m : ℕ). after step m x) (sym size) ∙ over_stays step (n + 1) (most - (n + 1)) x r e (after-next step n x q h ∙ ends)
+
+pub along-last : {S E A : Type 0} (step : S → Stand S E) (f : S → List A) (n most : ℕ) (x : Stand S E) (q r : S) (e : E) → n < most → after step n x ≡ Goes q → step q ≡ Over r e → along step f most x ≡ along step f n x ++ f q
+along-last step f n most x q r e lt h ends =
+    let size : n + 1 + (most - (n + 1)) ≡ most = omega arith in
+    ap (λ (m : ℕ). along step f m x) (sym size) ∙ along_stays step f (n + 1) (most - (n + 1)) x r e (after-next step n x q h ∙ ends) ∙ along-next step f n x q h

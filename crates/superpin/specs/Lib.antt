@@ -1,0 +1,8 @@
+pub mod Answer
+pub mod Built
+pub mod Run
+pub mod Words
+pub mod Report
+pub mod Due
+pub mod Outcome
+pub mod Top
