@@ -7,6 +7,8 @@ mod host;
 mod memory;
 mod pacer;
 mod real;
+#[cfg(test)]
+mod tests;
 mod whole;
 
 pub use host::{Failed, Host, Port};

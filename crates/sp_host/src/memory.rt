@@ -11,7 +11,7 @@ use std::alloc::{AllocError, Global};
 ///
 /// Each of the five lists holds the numbers of the calls of one kind that fail. The first call of a kind has
 /// number 1.
-#[derive(Drop)]
+#[derive(Debug, Drop)]
 pub struct FaultPlan {
     /// Calls of [`Host::read_file`].
     pub file: Vec<u64>,
@@ -27,6 +27,29 @@ pub struct FaultPlan {
     pub most: usize,
     /// The bytes that each port can hold.
     pub room: usize,
+}
+
+impl FaultPlan {
+    /// A plan by which no call fails but a write to a full port. The lists can be filled then.
+    pub fn new(alloc: Global, most: usize, room: usize) -> FaultPlan
+        ensures file { result.file.items ≡ [] }
+        ensures input { result.input.items ≡ [] }
+        ensures out { result.out.items ≡ [] }
+        ensures err { result.err.items ≡ [] }
+        ensures report { result.report.items ≡ [] }
+        ensures most { result.most ≡ most }
+        ensures room { result.room ≡ room }
+    {
+        FaultPlan {
+            file: Vec::new(alloc),
+            input: Vec::new(alloc),
+            out: Vec::new(alloc),
+            err: Vec::new(alloc),
+            report: Vec::new(alloc),
+            most,
+            room,
+        }
+    }
 }
 
 // The calls of one kind: which fail, how many there were, and how many failed.
@@ -202,16 +225,23 @@ impl MemoryHost {
     ) -> Result<MemoryHost, AllocError>
         requires { 0 < faults.most }
         ensures told { IfOk result (λ h. memory_told h ≡ record {
-            files = Some (file_named files.items); input = Some input.items; moments = Some moments.items;
-            out = Some []; err = Some []; report = Some [] }) }
+          files = Some (file_named files.items);
+          input = Some input.items;
+          moments = Some moments.items;
+          out = Some [];
+          err = Some [];
+          report = Some [];
+        }) }
         ensures faults { IfOk result (λ h. memory_faults h ≡ no_faults) }
         ensures plan { IfOk result (λ h. memory_of h ≡ record {
-            file = record { planned = faults.file.items; made = 0 };
-            input = record { planned = faults.input.items; made = 0 };
-            out = record { planned = faults.out.items; made = 0 };
-            err = record { planned = faults.err.items; made = 0 };
-            report = record { planned = faults.report.items; made = 0 };
-            most = faults.most; room = faults.room }) }
+          file = record { planned = faults.file.items; made = 0 };
+          input = record { planned = faults.input.items; made = 0 };
+          out = record { planned = faults.out.items; made = 0 };
+          err = record { planned = faults.err.items; made = 0 };
+          report = record { planned = faults.report.items; made = 0 };
+          most = faults.most;
+          room = faults.room;
+        }) }
     {
         let FaultPlan {
             file,

@@ -4,10 +4,9 @@ ghost use Rattle.sp_host.specs.Faults.{Faulted, no_faults};
 ghost use Rattle.sp_host.specs.Faults.Source.{To};
 
 use crate::{Failed, Host, Port};
-use std::fs;
-use std::io;
 use std::io::{Read, Seek, SeekFrom};
 use std::time::{Clock, SystemTime, UNIX_EPOCH};
+use std::{fs, io};
 
 /// The system. It counts the calls that fail, and tells nothing.
 ///
