@@ -1,5 +1,5 @@
 -- The count of one source.
-use Rattle.std.proofs.Common.{◌≡◌, ◌≤◌, ◌<◌, ◌-◌, ◌^◌, ℕ, arith, refl, ap, sym, ◌∙◌}
+use Rattle.std.proofs.Common.{◌≡◌, ℕ, arith, refl, ap}
 use Rattle.std.specs.Prelude.{Result, MatchResult}
 use Rattle.std.proofs.lemmas.Result.{MatchResult-weaker}
 use Rattle.sp_host.specs.declared.host.Port.TheVariants.{Out, Err, Report}

@@ -7,7 +7,6 @@ use Rattle.sp_host.specs.Faults.{Faults}
 use Rattle.sp_host.specs.Plan.{Calls, MemoryState}
 use Rattle.sp_host.specs.declared.memory.Meter.{Meter}
 use Rattle.sp_host.specs.declared.memory.Tape.{Tape}
-use Rattle.sp_host.specs.declared.memory.Sink.{Sink}
 use Rattle.sp_host.specs.declared.memory.MemoryHost.{MemoryHost}
 
 -- The first file of this name counts. A name that isn't in the list reads as an empty file.

@@ -1,5 +1,5 @@
 -- What a host tells of the outside, each part optionally, and what a call does to it.
-use Rattle.std.specs.Prelude.{◌≡◌, ℕ, ◌<◌, ◌≤◌, List, [], ◌++◌, length, take, drop, Option, None, Some}
+use Rattle.std.specs.Prelude.{◌≡◌, ℕ, ◌<◌, ◌≤◌, List, [], ◌++◌, length, take, drop, Option, Some}
 use Rattle.std.specs.Option.{option_map}
 use Rattle.sp_host.specs.declared.host.Port.{Port}
 use Rattle.sp_host.specs.declared.host.Port.TheVariants.{Out, Err, Report}

@@ -1,4 +1,4 @@
-use Rattle.std.proofs.Common.{◌≡◌, ◌↔◌, ◌⊎◌, subst, sym, IsErr}
+use Rattle.std.proofs.Common.{◌↔◌, ◌⊎◌, subst, sym, IsErr}
 use Rattle.sp_host.specs.declared.host.Port.{Port}
 use Rattle.sp_host.specs.declared.host.Port.TheVariants.{Out, Err, Report}
 use Rattle.sp_host.specs.Faults.{To, Counts, with_count}
