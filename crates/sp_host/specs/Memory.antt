@@ -12,7 +12,8 @@ use Rattle.sp_host.specs.declared.memory.MemoryHost.{MemoryHost}
 -- The first file of this name counts. A name that isn't in the list reads as an empty file.
 abbrev pub file_named : List (String Global × Vec ℕ Global) → List ℕ → List ℕ
 file_named [] name = []
-file_named (file ∷ files) name = if pointwise nat_eq (string_bytes file.0) name then file.1.items else file_named files name
+file_named (file ∷ files) name =
+    if pointwise nat_eq (string_bytes file.0) name then file.1.items else file_named files name
 
 -- what a tape has left
 abbrev pub tape_left : Tape → List ℕ

@@ -47,7 +47,8 @@ pub trait Host {
     fn read_file(&mut self, name: &str, at: u64, buf: &mut [u8]) -> Result<usize, Failed>
         requires { 0 < length buf.old }
         ensures bound { IfOk result (λ n. n ≤ length buf.new) }
-        ensures bytes { IfOk result (λ n. WhereTold (told self.old).files (λ files. Gives (drop at (files name.now)) n buf.new)) }
+        ensures bytes { IfOk result (λ n. WhereTold (told self.old).files (λ files.
+            Gives (drop at (files name.now)) n buf.new)) }
         ensures told { told self.new ≡ told self.old }
         ensures faults { Counts File (faults self.old) (faults self.new) result };
 
@@ -57,7 +58,8 @@ pub trait Host {
         requires { 0 < length buf.old }
         ensures bound { IfOk result (λ n. n ≤ length buf.new) }
         ensures bytes { IfOk result (λ n. WhereTold (told self.old).input (λ left. Gives left n buf.new)) }
-        ensures told { MatchResult result (λ n. told self.new ≡ input_taken n (told self.old)) (λ _. told self.new ≡ told self.old) }
+        ensures told { MatchResult result (λ n. told self.new ≡ input_taken n (told self.old))
+            (λ _. told self.new ≡ told self.old) }
         ensures faults { Counts Input (faults self.old) (faults self.new) result };
 
     /// Writes the first bytes of a piece, at least one, and answers how many.
@@ -65,7 +67,8 @@ pub trait Host {
         requires { 0 < length bytes.now }
         ensures some { IfOk result (λ n. 0 < n) }
         ensures bound { IfOk result (λ n. n ≤ length bytes.now) }
-        ensures told { MatchResult result (λ n. told self.new ≡ sent port (take n bytes.now) (told self.old)) (λ _. told self.new ≡ told self.old) }
+        ensures told { MatchResult result (λ n. told self.new ≡ sent port (take n bytes.now) (told self.old))
+            (λ _. told self.new ≡ told self.old) }
         ensures faults { Counts (To port) (faults self.old) (faults self.new) result };
 
     /// Takes the first moment that is left, in nanoseconds since 1970, or answers 0 where none is left.

@@ -84,7 +84,8 @@ impl Meter {
     // Counts a call. It fails exactly where its number is in the plan.
     fn call(&mut self) -> Result<(), Failed>
         ensures planned { IsErr result ↔ Contains self.old.plan.items (one_more self.old.calls) }
-        ensures faults { MatchResult result (λ _. self.new.faults ≡ self.old.faults) (λ _. self.new.faults ≡ one_more self.old.faults) }
+        ensures faults { MatchResult result (λ _. self.new.faults ≡ self.old.faults)
+            (λ _. self.new.faults ≡ one_more self.old.faults) }
         ensures calls { self.new.calls ≡ one_more self.old.calls }
         ensures plan { self.new.plan ≡ self.old.plan }
     {
@@ -156,11 +157,15 @@ impl Sink {
         requires most { 0 < most }
         requires room { room ≤ vec_capacity self.old.bytes }
         ensures room { room ≤ vec_capacity self.new.bytes }
-        ensures failed { IsErr result ↔ (Contains self.old.meter.plan.items (one_more self.old.meter.calls) ⊎ (room ≤ length self.old.bytes.items)) }
+        ensures failed { IsErr result ↔
+            (Contains self.old.meter.plan.items (one_more self.old.meter.calls) ⊎ (room ≤ length self.old.bytes.items)) }
         ensures some { IfOk result (λ n. 0 < n) }
-        ensures count { IfOk result (λ n. n ≡ count_moved most (length piece.now) (room - length self.old.bytes.items)) }
-        ensures bytes { MatchResult result (λ n. self.new.bytes.items ≡ self.old.bytes.items ++ take n piece.now) (λ _. self.new.bytes.items ≡ self.old.bytes.items) }
-        ensures faults { MatchResult result (λ _. self.new.meter.faults ≡ self.old.meter.faults) (λ _. self.new.meter.faults ≡ one_more self.old.meter.faults) }
+        ensures count { IfOk result (λ n.
+            n ≡ count_moved most (length piece.now) (room - length self.old.bytes.items)) }
+        ensures bytes { MatchResult result (λ n. self.new.bytes.items ≡ self.old.bytes.items ++ take n piece.now)
+            (λ _. self.new.bytes.items ≡ self.old.bytes.items) }
+        ensures faults { MatchResult result (λ _. self.new.meter.faults ≡ self.old.meter.faults)
+            (λ _. self.new.meter.faults ≡ one_more self.old.meter.faults) }
         ensures calls { self.new.meter.calls ≡ one_more self.old.meter.calls }
         ensures plan { self.new.meter.plan ≡ self.old.meter.plan }
     {
@@ -304,14 +309,16 @@ impl Host for MemoryHost {
     fn read_file(&mut self, name: &str, at: u64, buf: &mut [u8]) -> Result<usize, Failed>
         requires { 0 < length buf.old }
         ensures bound { IfOk result (λ n. n ≤ length buf.new) }
-        ensures bytes { IfOk result (λ n. WhereTold (memory_told self.old).files (λ files. Gives (drop at (files name.now)) n buf.new)) }
+        ensures bytes { IfOk result (λ n. WhereTold (memory_told self.old).files (λ files.
+            Gives (drop at (files name.now)) n buf.new)) }
         ensures told { memory_told self.new ≡ memory_told self.old }
         ensures faults { Counts File (memory_faults self.old) (memory_faults self.new) result }
 
-        // the plan
+        // which calls fail, and how many bytes they move, as the plan says
         ensures failed { IsErr result ↔ IsPlanned File (memory_of self.old) }
         ensures count { IfOk result (λ n. WhereTold (memory_told self.old).files (λ files.
-            n ≡ count_moved (memory_of self.old).most (length buf.old) (length (drop at (files name.now))))) }
+            n ≡ count_moved (memory_of self.old).most (length buf.old)
+            (length (drop at (files name.now))))) }
         ensures calls { memory_of self.new ≡ call_made File (memory_of self.old) }
     {
         self.file_meter.call()?;
@@ -324,11 +331,13 @@ impl Host for MemoryHost {
     fn read_input(&mut self, buf: &mut [u8]) -> Result<usize, Failed>
         requires { 0 < length buf.old }
         ensures bound { IfOk result (λ n. n ≤ length buf.new) }
-        ensures bytes { IfOk result (λ n. WhereTold (memory_told self.old).input (λ left. Gives left n buf.new)) }
-        ensures told { MatchResult result (λ n. memory_told self.new ≡ input_taken n (memory_told self.old)) (λ _. memory_told self.new ≡ memory_told self.old) }
+        ensures bytes { IfOk result (λ n. WhereTold (memory_told self.old).input (λ left.
+            Gives left n buf.new)) }
+        ensures told { MatchResult result (λ n. memory_told self.new ≡ input_taken n (memory_told self.old))
+            (λ _. memory_told self.new ≡ memory_told self.old) }
         ensures faults { Counts Input (memory_faults self.old) (memory_faults self.new) result }
 
-        // the plan
+        // as the plan says
         ensures failed { IsErr result ↔ IsPlanned Input (memory_of self.old) }
         ensures count { IfOk result (λ n. WhereTold (memory_told self.old).input (λ left.
             n ≡ count_moved (memory_of self.old).most (length buf.old) (length left))) }
@@ -342,13 +351,17 @@ impl Host for MemoryHost {
         requires { 0 < length bytes.now }
         ensures some { IfOk result (λ n. 0 < n) }
         ensures bound { IfOk result (λ n. n ≤ length bytes.now) }
-        ensures told { MatchResult result (λ n. memory_told self.new ≡ sent port (take n bytes.now) (memory_told self.old)) (λ _. memory_told self.new ≡ memory_told self.old) }
+        ensures told { MatchResult result
+            (λ n. memory_told self.new ≡ sent port (take n bytes.now) (memory_told self.old))
+            (λ _. memory_told self.new ≡ memory_told self.old) }
         ensures faults { Counts (To port) (memory_faults self.old) (memory_faults self.new) result }
 
-        // the plan
-        ensures failed { IsErr result ↔ (IsPlanned (To port) (memory_of self.old) ⊎ IsFull port (memory_of self.old) (memory_told self.old)) }
+        // as the plan says
+        ensures failed { IsErr result ↔ (IsPlanned (To port) (memory_of self.old)
+            ⊎ IsFull port (memory_of self.old) (memory_told self.old)) }
         ensures count { IfOk result (λ n. WhereTold (written_to port (memory_told self.old)) (λ held.
-            n ≡ count_moved (memory_of self.old).most (length bytes.now) ((memory_of self.old).room - length held))) }
+            n ≡ count_moved (memory_of self.old).most (length bytes.now)
+            ((memory_of self.old).room - length held))) }
         ensures calls { memory_of self.new ≡ call_made (To port) (memory_of self.old) }
     {
         match port {
