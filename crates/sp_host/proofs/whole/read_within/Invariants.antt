@@ -1,0 +1,18 @@
+use Rattle.std.proofs.Common.{◌≡◌, ◌≤◌, ◌-◌, ◌+◌, vec_len}
+use Rattle.sp_host.specs.Told.{WhereTold}
+use Rattle.sp_host.specs.Whole.{IsFront}
+use Rattle.sp_host.proofs.whole.read_within.Given as goal
+
+abbrev pub invariant-pieces : goal.invariant-pieces
+invariant-pieces g l =
+    let told = g.H.Host.told in
+    let faults = g.H.Host.faults in
+    record {
+      size : vec_len l.bytes ≤ l.most + 1;
+      same_told : told l.host ≡ told l.fn.host;
+      same_faults : faults l.host ≡ faults l.fn.host;
+      bytes : WhereTold (told l.fn.host).files (λ files. IsFront l.bytes.items (files l.name));
+    }
+
+abbrev pub decreases-pieces : goal.decreases-pieces
+decreases-pieces g l = (l.most + 1) - vec_len l.bytes

@@ -1,0 +1,9 @@
+pub mod Count
+pub mod Told
+pub mod Faults
+pub mod Tally
+pub mod ListPacer
+pub mod Plan
+pub mod Memory
+pub mod Real
+pub mod Whole

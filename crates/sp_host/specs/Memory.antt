@@ -1,0 +1,53 @@
+-- What a host in memory has.
+use Rattle.std.specs.Prelude.{ℕ, List, [], ◌∷◌, drop, Some, Vec, String, string_bytes, if◌then◌else◌, nat_eq}
+use Rattle.std.specs.Cmp.Lexicographic.{pointwise}
+use Rattle.std.specs.declared.alloc.Global.{Global}
+use Rattle.sp_host.specs.Told.{Told}
+use Rattle.sp_host.specs.Faults.{Faults}
+use Rattle.sp_host.specs.Plan.{Calls, MemoryState}
+use Rattle.sp_host.specs.declared.memory.Meter.{Meter}
+use Rattle.sp_host.specs.declared.memory.Tape.{Tape}
+use Rattle.sp_host.specs.declared.memory.MemoryHost.{MemoryHost}
+
+-- The first file of this name counts. A name that isn't in the list reads as an empty file.
+abbrev pub file_named : List (String Global × Vec ℕ Global) → List ℕ → List ℕ
+file_named [] name = []
+file_named (file ∷ files) name =
+    if pointwise nat_eq (string_bytes file.0) name then file.1.items else file_named files name
+
+-- what a tape has left
+abbrev pub tape_left : Tape → List ℕ
+tape_left t = drop t.at t.items.items
+
+abbrev pub memory_told : MemoryHost → Told
+memory_told h = record {
+  files = Some (file_named h.files.items);
+  input = Some (tape_left h.input);
+  moments = Some (drop h.moments_at h.moments.items);
+  out = Some h.out.bytes.items;
+  err = Some h.err.bytes.items;
+  report = Some h.report.bytes.items;
+}
+
+abbrev pub memory_faults : MemoryHost → Faults
+memory_faults h = record {
+  file = h.file_meter.faults;
+  input = h.input_meter.faults;
+  out = h.out.meter.faults;
+  err = h.err.meter.faults;
+  report = h.report.meter.faults;
+}
+
+abbrev pub meter_calls : Meter → Calls
+meter_calls m = record { planned = m.plan.items; made = m.calls }
+
+abbrev pub memory_of : MemoryHost → MemoryState
+memory_of h = record {
+  file = meter_calls h.file_meter;
+  input = meter_calls h.input_meter;
+  out = meter_calls h.out.meter;
+  err = meter_calls h.err.meter;
+  report = meter_calls h.report.meter;
+  most = h.most;
+  room = h.room;
+}

@@ -1,0 +1,61 @@
+-- What a host tells of the outside, each part optionally, and what a call does to it.
+use Rattle.std.specs.Prelude.{◌≡◌, ℕ, ◌<◌, ◌≤◌, List, [], ◌++◌, length, take, drop, Option, Some}
+use Rattle.std.specs.Option.{option_map}
+use Rattle.sp_host.specs.declared.host.Port.{Port}
+use Rattle.sp_host.specs.declared.host.Port.TheVariants.{Out, Err, Report}
+
+pub record Told : Type 0 where
+  -- the bytes of each file, by its name
+  pub files : Option (List ℕ → List ℕ)
+  -- the bytes of the input that are left
+  pub input : Option (List ℕ)
+  -- the moments that are left, in nanoseconds
+  pub moments : Option (List ℕ)
+  -- the bytes written to each port
+  pub out : Option (List ℕ)
+  pub err : Option (List ℕ)
+  pub report : Option (List ℕ)
+
+-- these bytes, where told, and then others
+abbrev pub appended : Option (List ℕ) → List ℕ → Option (List ℕ)
+appended old bytes = option_map (λ xs. xs ++ bytes) old
+
+-- all but the first n, where told
+abbrev pub dropped : Option (List ℕ) → ℕ → Option (List ℕ)
+dropped old n = option_map (drop n) old
+
+-- the bytes written to a port
+abbrev pub written_to : Port → Told → Option (List ℕ)
+written_to Out told = told.out
+written_to Err told = told.err
+written_to Report told = told.report
+
+-- after bytes were written to a port
+abbrev pub sent : Port → List ℕ → Told → Told
+sent Out bytes told = record told { out = appended told.out bytes }
+sent Err bytes told = record told { err = appended told.err bytes }
+sent Report bytes told = record told { report = appended told.report bytes }
+
+-- after n bytes of the input were taken
+abbrev pub input_taken : ℕ → Told → Told
+input_taken n told = record told { input = dropped told.input n }
+
+-- after the first moment was taken
+abbrev pub moment_taken : Told → Told
+moment_taken told = record told { moments = dropped told.moments 1 }
+
+-- holds of what is told
+abbrev pub WhereTold : {T : Type 0} → Option T → (T → Type 0) → Type 0
+WhereTold {T} known P = (x : T) → known ≡ Some x → P x
+
+-- A read gave the first n of these bytes, none only at their end.
+pub record Gives (bytes : List ℕ) (n : ℕ) (buffer : List ℕ) : Type 0 where
+  pub first : take n buffer ≡ take n bytes
+  pub within : n ≤ length bytes
+  pub end : n ≡ 0 → bytes ≡ []
+
+-- A beginning of these bytes was written to a port, and not all of them.
+pub record PartSent (port : Port) (bytes : List ℕ) (old new : Told) : Type 0 where
+  pub count : ℕ
+  pub proper : count < length bytes
+  pub sends : new ≡ sent port (take count bytes) old

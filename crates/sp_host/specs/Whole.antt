@@ -1,0 +1,23 @@
+-- What reading a whole file answers.
+use Rattle.std.specs.Prelude.{◌≡◌, ℕ, ◌<◌, ◌≤◌, List, length, take, Option, None, Some, ⊤}
+use Rattle.sp_host.specs.Faults.{Source}
+use Rattle.sp_host.specs.Faults.Source.{File}
+use Rattle.sp_host.specs.declared.whole.ReadFault.{ReadFault}
+use Rattle.sp_host.specs.declared.whole.ReadFault.TheVariants.{FileFault, FileTooLarge, NoMemory}
+
+-- the call that a fault comes from
+abbrev pub fault_source : ReadFault → Option Source
+fault_source FileFault = Some File
+fault_source FileTooLarge = None
+fault_source NoMemory = None
+
+-- A file of this size, of which at most so many bytes may be read, can lead to this fault.
+abbrev pub FaultFits : ReadFault → ℕ → ℕ → Type 0
+FaultFits FileFault most size = ⊤
+FaultFits FileTooLarge most size = most < size
+FaultFits NoMemory most size = ⊤
+
+-- the first bytes of a file
+pub record IsFront (bytes file : List ℕ) : Type 0 where
+  pub within : length bytes ≤ length file
+  pub same : bytes ≡ take (length bytes) file
