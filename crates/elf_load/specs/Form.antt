@@ -9,41 +9,41 @@ use Rattle.elf_load.specs.Image.{ImageFields}
 -- e_ident, 16 bytes
 abbrev pub identification : List ℕ
 identification =
-    0x7f ∷ 0x45 ∷ 0x4c ∷ 0x46 ∷ []       -- EI_MAG0 to EI_MAG3: 0x7f, `ELF`
-    ++ 1 ∷ []                            -- EI_CLASS: ELFCLASS32
-    ++ 1 ∷ []                            -- EI_DATA: ELFDATA2LSB
-    ++ 1 ∷ []                            -- EI_VERSION: EV_CURRENT
+    0x7f ∷ 0x45 ∷ 0x4c ∷ 0x46 ∷ []  -- EI_MAG0 to EI_MAG3: 0x7f, `ELF`
+    ++ 1 ∷ []  -- EI_CLASS: ELFCLASS32
+    ++ 1 ∷ []  -- EI_DATA: ELFDATA2LSB
+    ++ 1 ∷ []  -- EI_VERSION: EV_CURRENT
     ++ 0 ∷ 0 ∷ 0 ∷ 0 ∷ 0 ∷ 0 ∷ 0 ∷ 0 ∷ 0 ∷ []  -- EI_PAD
 
 -- the file header, Elf32_Ehdr, 52 bytes
 abbrev pub file_header : List ℕ
 file_header =
-    identification                       -- e_ident
-    ++ little_bytes 2 2                  -- e_type: ET_EXEC
-    ++ little_bytes 2 243                -- e_machine: EM_RISCV
-    ++ little_bytes 4 1                  -- e_version: EV_CURRENT
-    ++ little_bytes 4 0x10054            -- e_entry: right behind the headers
-    ++ little_bytes 4 52                 -- e_phoff: right behind the file header
-    ++ little_bytes 4 0                  -- e_shoff: no section header table
-    ++ little_bytes 4 0                  -- e_flags
-    ++ little_bytes 2 52                 -- e_ehsize
-    ++ little_bytes 2 32                 -- e_phentsize
-    ++ little_bytes 2 1                  -- e_phnum
-    ++ little_bytes 2 40                 -- e_shentsize
-    ++ little_bytes 2 0                  -- e_shnum
-    ++ little_bytes 2 0                  -- e_shstrndx: SHN_UNDEF
+    identification  -- e_ident
+    ++ little_bytes 2 2  -- e_type: ET_EXEC
+    ++ little_bytes 2 243  -- e_machine: EM_RISCV
+    ++ little_bytes 4 1  -- e_version: EV_CURRENT
+    ++ little_bytes 4 0x10054  -- e_entry: right behind the headers
+    ++ little_bytes 4 52  -- e_phoff: right behind the file header
+    ++ little_bytes 4 0  -- e_shoff: no section header table
+    ++ little_bytes 4 0  -- e_flags
+    ++ little_bytes 2 52  -- e_ehsize
+    ++ little_bytes 2 32  -- e_phentsize
+    ++ little_bytes 2 1  -- e_phnum
+    ++ little_bytes 2 40  -- e_shentsize
+    ++ little_bytes 2 0  -- e_shnum
+    ++ little_bytes 2 0  -- e_shstrndx: SHN_UNDEF
 
 -- the program header of a file of this size, Elf32_Phdr, 32 bytes: the whole file is one segment
 abbrev pub program_header : ℕ → List ℕ
 program_header size =
-    little_bytes 4 1                     -- p_type: PT_LOAD
-    ++ little_bytes 4 0                  -- p_offset
-    ++ little_bytes 4 0x10000            -- p_vaddr
-    ++ little_bytes 4 0x10000            -- p_paddr
-    ++ little_bytes 4 size               -- p_filesz
-    ++ little_bytes 4 size               -- p_memsz
-    ++ little_bytes 4 5                  -- p_flags: PF_R and PF_X
-    ++ little_bytes 4 0x1000             -- p_align
+    little_bytes 4 1  -- p_type: PT_LOAD
+    ++ little_bytes 4 0  -- p_offset
+    ++ little_bytes 4 0x10000  -- p_vaddr
+    ++ little_bytes 4 0x10000  -- p_paddr
+    ++ little_bytes 4 size  -- p_filesz
+    ++ little_bytes 4 size  -- p_memsz
+    ++ little_bytes 4 5  -- p_flags: PF_R and PF_X
+    ++ little_bytes 4 0x1000  -- p_align
 
 -- the two headers of a file of this size, 84 bytes
 unfoldable pub header_of : ℕ → List ℕ
@@ -72,4 +72,5 @@ image_of file = if is_accepted file then Some image else None where
     phdr = 0x10034;
     phnum = 1;
     segments = record { start = 0x10000; size = length file; flags = 5; bytes = file } ∷ [];
-    functions = [] }
+    functions = [];
+  }
