@@ -3,7 +3,7 @@ ghost use Rattle.std.specs.Prelude.{◌≡◌, ◌≤◌, ◌<◌, length, map, 
 ghost use Rattle.rv_machine.specs.Load.{machine_of};
 
 use crate::guest::Guest;
-use elf_load::Image;
+use elf_load::image::Image;
 use std::alloc::{AllocError, Global};
 use thiserror::Error;
 
