@@ -1,5 +1,5 @@
 -- What the images of accepted files have in common.
-use Rattle.std.proofs.Common.{◌≡◌, ◌≤◌, ◌+◌, ◌-◌, ◌*◌, ◌/◌, ℕ, Bool, true, false, List, length, Option, Some, None, eqb, leb, arith}
+use Rattle.std.proofs.Common.{◌≡◌, ◌≤◌, ℕ, true, List, length, Some, arith}
 use Rattle.std.proofs.lemmas.Bool.Decides.{nat_tests}
 use Rattle.elf_load.specs.Image.{ImageFields}
 use Rattle.elf_load.specs.Form.{is_accepted, image_of, image_at}
