@@ -13,7 +13,7 @@ identification =
     ++ 1 ∷ []  -- EI_CLASS: ELFCLASS32
     ++ 1 ∷ []  -- EI_DATA: ELFDATA2LSB
     ++ 1 ∷ []  -- EI_VERSION: EV_CURRENT
-    ++ 0 ∷ 0 ∷ 0 ∷ 0 ∷ 0 ∷ 0 ∷ 0 ∷ 0 ∷ 0 ∷ []  -- EI_PAD
+    ++ 0 ∷ 0 ∷ 0 ∷ 0 ∷ 0 ∷ 0 ∷ 0 ∷ 0 ∷ 0 ∷ []  -- EI_OSABI, EI_ABIVERSION and EI_PAD
 
 -- the file header, Elf32_Ehdr, 52 bytes
 abbrev pub file_header : List ℕ
@@ -63,14 +63,16 @@ is_accepted file = accepted_at (length file) where
       && (size == 84 + 4 * word_count size)
       && starts_with nat_eq file (header_of size)
 
--- the image of a file, where it is accepted: its only segment is the whole file at 0x10000
+-- the image of an accepted file: its only segment is the whole file, at 0x10000
+abbrev pub image_at : List ℕ → ImageFields
+image_at file = record {
+  entry = 0x10054;
+  phdr = 0x10034;
+  phnum = 1;
+  segments = record { start = 0x10000; size = length file; flags = 5; bytes = file } ∷ [];
+  functions = [];
+}
+
+-- the image of a file, where it is accepted
 abbrev pub image_of : List ℕ → Option ImageFields
-image_of file = if is_accepted file then Some image else None where
-  image : ImageFields
-  image = record {
-    entry = 0x10054;
-    phdr = 0x10034;
-    phnum = 1;
-    segments = record { start = 0x10000; size = length file; flags = 5; bytes = file } ∷ [];
-    functions = [];
-  }
+image_of file = if is_accepted file then Some (image_at file) else None
