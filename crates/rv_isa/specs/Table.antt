@@ -113,14 +113,30 @@ rs2_of (S _ _) word = bits word 24 20
 rs2_of (B _ _) word = bits word 24 20
 rs2_of _ word = 0
 
--- the immediate: its pieces in the word, each at its place, with bit 31 of the word as the sign; a shift's is its amount
+-- The immediates of the forms: their pieces in the word, each at its place, with bit 31 of the word as the sign.
+abbrev pub i_immediate : ℕ → ℤ
+i_immediate word = signed 12 (bits word 31 20)
+
+abbrev pub s_immediate : ℕ → ℤ
+s_immediate word = signed 12 (bits word 31 25 * 2 ^ 5 + bits word 11 7)
+
+abbrev pub b_immediate : ℕ → ℤ
+b_immediate word = signed 13 (bits word 31 31 * 2 ^ 12 + bits word 7 7 * 2 ^ 11 + bits word 30 25 * 2 ^ 5 + bits word 11 8 * 2 ^ 1)
+
+abbrev pub u_immediate : ℕ → ℤ
+u_immediate word = signed 32 (bits word 31 12 * 2 ^ 12)
+
+abbrev pub j_immediate : ℕ → ℤ
+j_immediate word = signed 21 (bits word 31 31 * 2 ^ 20 + bits word 19 12 * 2 ^ 12 + bits word 20 20 * 2 ^ 11 + bits word 30 21 * 2 ^ 1)
+
+-- the immediate in each form; a shift's is its amount, bits 24 to 20
 abbrev pub imm_of : Row → ℕ → ℤ
-imm_of (I _ _) word = signed 12 (bits word 31 20)
+imm_of (I _ _) word = i_immediate word
 imm_of (Shift _ _ _) word = pos (bits word 24 20)
-imm_of (S _ _) word = signed 12 (bits word 31 25 * 2 ^ 5 + bits word 11 7)
-imm_of (B _ _) word = signed 13 (bits word 31 31 * 2 ^ 12 + bits word 7 7 * 2 ^ 11 + bits word 30 25 * 2 ^ 5 + bits word 11 8 * 2 ^ 1)
-imm_of (U _) word = signed 32 (bits word 31 12 * 2 ^ 12)
-imm_of (J _) word = signed 21 (bits word 31 31 * 2 ^ 20 + bits word 19 12 * 2 ^ 12 + bits word 20 20 * 2 ^ 11 + bits word 30 21 * 2 ^ 1)
+imm_of (S _ _) word = s_immediate word
+imm_of (B _ _) word = b_immediate word
+imm_of (U _) word = u_immediate word
+imm_of (J _) word = j_immediate word
 imm_of _ word = pos 0
 
 -- The decoding relation: the word is one of the instruction's.
