@@ -48,16 +48,19 @@ pub struct Image {
     pub phdr: u32,
     /// The number of entries of the program header table.
     pub phnum: u16,
-    /// The segments, in order of address.
+    /// The segments, in order of address. Each has 1 byte or more, from 0x1000 to below 0x4000_0000.
     pub segments: Vec<Segment>,
     /// The functions, in order of address.
     pub functions: Vec<Function>,
 }
 
 impl Model for Image {
-    ghost use Rattle.elf_load.specs.Image.{ImageFields};
+    ghost use Rattle.std.specs.Prelude.{All};
+    ghost use Rattle.elf_load.specs.Image.{ImageFields, IsSegment};
 
     ghost Value = { ImageFields };
 
     ghost view = { λ i. record { entry = i.entry; phdr = i.phdr; phnum = i.phnum; segments = i.segments.items; functions = i.functions.items } };
+
+    ghost invariant = { λ i. All IsSegment i.segments.items };
 }
