@@ -76,6 +76,7 @@ impl Guest {
     }
 
     /// Goes on behind the call at pc, with its result in x10.
+    #[tactic(auto, unfolding(guest_model::specs::Call::finished))]
     pub fn finish_call(&mut self, answer: u32)
         requires { effect_of self.old ≡ effects.Call }
         ensures { self.new ≡ finished self.old answer }

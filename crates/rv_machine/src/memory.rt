@@ -1,8 +1,8 @@
 // The memory of a guest that is one file.
-ghost use Rattle.std.specs.Prelude.{◌≡◌, ◌+◌, ◌^◌, ◌<◌, ◌≤◌, ◌⊎◌, false, true, length, IfOk, MatchOption};
+ghost use Rattle.std.specs.Prelude.{◌≡◌, ◌+◌, ◌*◌, ◌^◌, ◌<◌, ◌≤◌, ◌⊎◌, false, true, length, IfOk, IfSome, MatchBool, MatchOption};
 ghost use Rattle.guest_model.specs.Areas.{all_permitted, is_range_permitted};
 ghost use Rattle.guest_model.specs.Bytes.{bytes_at, number_of};
-ghost use Rattle.guest_model.specs.Space.{read_number};
+ghost use Rattle.guest_model.specs.Space.{read_number, write_number};
 ghost use Rattle.guest_model.specs.declared.Access.TheVariants.{Read};
 ghost use Rattle.rv_machine.specs.Load.{padded};
 ghost use Rattle.rv_machine.specs.Memory.{space_with};
@@ -52,10 +52,21 @@ impl Memory {
     #[tactic(auto, using(crate::proofs::File::read_rules))]
     pub fn read(&self, access: Access, at: u32, size: u8) -> Option<u32>
         requires { (size ≡ 1) ⊎ ((size ≡ 2) ⊎ (size ≡ 4)) }
-        ensures { result ≡ read_number access self.now at size }
+        ensures number { result ≡ read_number access self.now at size }
+        ensures fits { IfSome result (λ n. n < 2 ^ (8 * size)) }
     {
         let bytes = self.part(access, at, size as u32)?;
         Some(number_of(bytes))
+    }
+
+    // Stores the `size` low bytes of `value` from `at` on. False, and nothing changes, where one of them may not be
+    // written: no byte of a file may.
+    pub fn write(&mut self, at: u32, size: u8, value: u32) -> bool
+        requires { 0 < size }
+        ensures { MatchBool result (write_number self.old at size value ≡ Some self.new) ((write_number self.old at size value ≡ None) × (self.new ≡ self.old)) }
+    {
+        let _ = &self.bytes;
+        false
     }
 
     // The `len` bytes from `at` on, or None where one of them may not be read.
@@ -91,7 +102,8 @@ impl Memory {
 // The little-endian number of 1, 2 or 4 bytes.
 fn number_of(bytes: &[u8]) -> u32
     requires { (length bytes.now ≡ 1) ⊎ ((length bytes.now ≡ 2) ⊎ (length bytes.now ≡ 4)) }
-    ensures { result ≡ number_of bytes.now }
+    ensures number { result ≡ number_of bytes.now }
+    ensures fits { result < 2 ^ (8 * length bytes.now) }
 {
     match bytes {
         [a] => u32::from(*a),

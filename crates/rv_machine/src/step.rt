@@ -194,12 +194,16 @@ impl Guest {
         }
     }
 
-    // No area may be written.
     fn store(&mut self, i: &Instr) -> Stepped
         requires { 0 < size_of i.now.op }
         ensures { Gives (stores self.old i.now) result self.old self.new }
     {
-        Stepped::Fault(FaultKind::Access)
+        let at = self.address(i);
+        let value = self.rs2(i);
+        if !self.memory.write(at, mem_size(i), value) {
+            return Stepped::Fault(FaultKind::Access);
+        }
+        self.go_on(i)
     }
 }
 
