@@ -1,6 +1,5 @@
 -- The bytes of a file in memory.
-use Rattle.std.proofs.Common.{◌≡◌, ℕ, zero, suc, ◌+◌, ◌-◌, ◌*◌, ◌<◌, ◌≤◌, ◌^◌, ◌%◌, ◌/◌, true, false, Bool, List, [], ◌∷◌, ◌++◌, length, get_or, take, drop, map, Option, Some, None, refl, sym, ap, subst, ◌∙◌, ◌⊎◌, ◌&&◌, cond, arith}
-use Rattle.std.specs.List.{range_with_len}
+use Rattle.std.proofs.Common.{◌≡◌, ℕ, zero, suc, ◌+◌, ◌<◌, ◌≤◌, ◌^◌, true, false, Bool, List, [], ◌∷◌, length, get_or, take, drop, Some, None, refl, sym, ap, subst, ◌∙◌, ◌⊎◌, ◌&&◌, cond, arith}
 use Rattle.std.specs.Option.{unwrap_or}
 use Rattle.std.specs.FinMap as flat
 use Rattle.std.proofs.lemmas.Bool.{and_from}
@@ -40,7 +39,7 @@ unfolding put_bytes
 byte_at-put_bytes m a [] i le lt = absurd (omega arith)
 byte_at-put_bytes m a (x ∷ xs) zero le lt =
     ap (λ o. unwrap_or o 0)
-      (put_bytes-below (flat.insert m (wrap a) x) (a + 1) xs (a + 0) (omega arith) (omega arith) ∙ get-insert_nat m (wrap a) x (a + 0) (omega arith))
+    (put_bytes-below (flat.insert m (wrap a) x) (a + 1) xs (a + 0) (omega arith) (omega arith) ∙ get-insert_nat m (wrap a) x (a + 0) (omega arith))
 byte_at-put_bytes m a (x ∷ xs) (suc i) le lt =
     let next : a + suc i ≡ a + 1 + i = omega arith in
     ap (byte_at (put_bytes (flat.insert m (wrap a) x) (a + 1) xs)) next ∙ byte_at-put_bytes (flat.insert m (wrap a) x) (a + 1) xs i (omega arith) (omega arith)
@@ -55,9 +54,9 @@ part_len xs from n le = grind (arith, common_steps)
 file_bytes : (xs : List ℕ) (at from n : ℕ) → length xs ≤ 2 ^ 30 → file_start + from ≡ at → from + n ≤ length xs → take n (drop from xs) ≡ bytes_at (put_bytes flat.empty file_start xs) at n
 file_bytes xs at from n few start le =
     fill_by_all (λ i. byte_at (put_bytes flat.empty file_start xs) (wrap (at + i))) (take n (drop from xs)) n 0 (part_len xs from n le)
-      (λ k lt.
-        let there : wrap (at + k) ≡ file_start + (from + k) = omega arith in
-        part xs from n k le lt ∙ sym (ap (byte_at (put_bytes flat.empty file_start xs)) there ∙ byte_at-put_bytes flat.empty file_start xs (from + k) (omega arith) (omega arith)))
+    (λ k lt.
+    let there : wrap (at + k) ≡ file_start + (from + k) = omega arith in
+    part xs from n k le lt ∙ sym (ap (byte_at (put_bytes flat.empty file_start xs)) there ∙ byte_at-put_bytes flat.empty file_start xs (from + k) (omega arith) (omega arith)))
 
 pub range_from : (areas : List Area) (at n : ℕ) → at + n ≤ 2 ^ 32 → all_permitted Read areas at n ≡ true → is_range_permitted Read areas at n ≡ true
 unfolding is_range_permitted
@@ -73,9 +72,10 @@ pub ruleset range_rules = (range_from, range_none)
 pub in_file : (s : Space) (xs : List ℕ) (access : Access) (at from n : ℕ) → space_with xs ≡ s → length xs ≤ 2 ^ 30 → (access ≡ Write → ⊥) → file_start + from ≡ at → from + n ≤ length xs
     → (all_permitted access s.areas at n ≡ true) × (take n (drop from xs) ≡ bytes_at s.bytes at n)
 unfolding space_with
-in_file s xs access at from n e few h start le =
-    (ap (λ t. all_permitted access t.areas at n) (sym e) ∙ permitted access (length xs) at n h few (omega arith) (omega arith),
-      file_bytes xs at from n few start le ∙ ap (λ t. bytes_at t.bytes at n) e)
+in_file s xs access at from n e few h start le = (
+  ap (λ t. all_permitted access t.areas at n) (sym e) ∙ permitted access (length xs) at n h few (omega arith) (omega arith),
+  file_bytes xs at from n few start le ∙ ap (λ t. bytes_at t.bytes at n) e,
+)
 
 -- one that does not
 pub not_in_file : (s : Space) (xs : List ℕ) (access : Access) (at n : ℕ) → space_with xs ≡ s → length xs ≤ 2 ^ 30 → at < 2 ^ 32 → 0 < n → (at < file_start) ⊎ (file_start + length xs < at + n)

@@ -1,5 +1,5 @@
 -- The machine at position 0.
-use Rattle.std.proofs.Common.{◌≡◌, ℕ, ◌≤◌, ◌^◌, List, [], ◌∷◌, length, true, sym, ap, ◌∙◌, arith}
+use Rattle.std.proofs.Common.{◌≡◌, ℕ, ◌≤◌, ◌^◌, List, [], ◌∷◌, length, true, ap, ◌∙◌, arith}
 use Rattle.std.specs.Prelude.{All, slice_set, replicate}
 use Rattle.elf_load.specs.Image.{ImageFields, SegmentFields, IsSegment}
 use Rattle.guest_model.specs.Machine.{Machine}

@@ -1,5 +1,5 @@
 -- Which addresses of a file may be accessed.
-use Rattle.std.proofs.Common.{◌≡◌, ℕ, zero, suc, ◌+◌, ◌-◌, ◌<◌, ◌≤◌, ◌&&◌, ◌||◌, ◌^◌, ◌%◌, true, false, Bool, List, [], ◌∷◌, refl, sym, ap, ◌∙◌, ◌⊎◌, inl, inr, arith}
+use Rattle.std.proofs.Common.{◌≡◌, ℕ, zero, suc, ◌+◌, ◌-◌, ◌<◌, ◌≤◌, ◌&&◌, ◌||◌, ◌^◌, true, false, Bool, List, [], ◌∷◌, refl, sym, ap, ◌∙◌, ◌⊎◌, inl, inr, arith}
 use Rattle.std.specs.Prelude.{nat_le, nat_lt}
 use Rattle.std.specs.List.{list_all, range_with_len}
 use Rattle.std.proofs.lemmas.Bool.{cases_lt, and_from, and_parts, false_from_ne_true, true≢false}
@@ -53,7 +53,7 @@ pub permitted : (access : Access) (size at n : ℕ) → (access ≡ Write → �
     → all_permitted access (file_area size ∷ []) at n ≡ true
 permitted access size at n h few ge le =
     all_permitted_from access (file_area size ∷ []) at n (λ i lt.
-      held (permits access (file_area size)) size (wrap (at + i)) (permits_unless_write access size h) (omega arith) (omega arith))
+    held (permits access (file_area size)) size (wrap (at + i)) (permits_unless_write access size h) (omega arith) (omega arith))
 
 outside_at : (access : Access) (size at n i : ℕ) → i < n → (wrap (at + i) < file_start) ⊎ (file_start + size ≤ wrap (at + i)) → all_permitted access (file_area size ∷ []) at n ≡ false
 outside_at access size at n i lt out = not_all_permitted access (file_area size ∷ []) at n i (not_held (permits access (file_area size)) size (wrap (at + i)) out) lt

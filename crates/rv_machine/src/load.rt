@@ -34,7 +34,12 @@ impl Guest {
     ///
     /// # Errors
     /// `NoMemory` where there is no memory for the guest.
-    pub fn load(alloc: Global, image: &Image, args: &[String], _frames: u32) -> Result<Guest, LoadFault>
+    pub fn load(
+        alloc: Global,
+        image: &Image,
+        args: &[String],
+        frames: u32,
+    ) -> Result<Guest, LoadFault>
         requires one { length args.now ≡ 1 }
         requires sizes { All (λ a. (1 ≤ string_len a) × (string_len a ≤ 255)) args.now }
         ensures ok { IfOk result (λ guest. guest ≡ machine_of image.now (map string_bytes args.now)) }

@@ -67,6 +67,7 @@ impl Guest {
         self.carry_out(&i)
     }
 
+    // Carries out an instruction.
     fn carry_out(&mut self, i: &Instr) -> Stepped
         ensures { Gives (effect_by i.now.op self.old i.now) result self.old self.new }
     {
@@ -78,7 +79,8 @@ impl Guest {
             Op::Beq | Op::Bne | Op::Blt | Op::Bge | Op::Bltu | Op::Bgeu => self.branch(i),
             Op::Lb | Op::Lh | Op::Lw | Op::Lbu | Op::Lhu => self.load_register(i),
             Op::Sb | Op::Sh | Op::Sw => self.store(i),
-            Op::Addi | Op::Slti | Op::Sltiu | Op::Xori | Op::Ori | Op::Andi => self.compute(i, immediate(i)),
+            Op::Addi | Op::Slti | Op::Sltiu => self.compute(i, immediate(i)),
+            Op::Xori | Op::Ori | Op::Andi => self.compute(i, immediate(i)),
             Op::Slli | Op::Srli | Op::Srai => self.compute(i, immediate(i)),
             Op::Fence => self.go_on(i),
             Op::Ecall => Stepped::Call,
@@ -176,11 +178,11 @@ impl Guest {
         if !is_taken(i.op, self.rs1(i), self.rs2(i)) {
             return self.go_on(i);
         }
-        let to = self.target(i);
-        if to % 4 != 0 {
+        let target = self.target(i);
+        if target % 4 != 0 {
             return Stepped::Fault(FaultKind::Misaligned);
         }
-        self.move_to(i, to);
+        self.move_to(i, target);
         Stepped::Next
     }
 

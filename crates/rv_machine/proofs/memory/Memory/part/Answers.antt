@@ -1,4 +1,4 @@
-use Rattle.std.proofs.Common.{ℕ, ◌≡◌, ◌+◌, ◌-◌, ◌%◌, ◌<◌, List, take, drop, ap, ◌∙◌, arith}
+use Rattle.std.proofs.Common.{◌≡◌, ◌+◌, ◌-◌, ◌%◌, take, drop, ap, ◌∙◌, arith}
 use Rattle.rv_machine.proofs.File.{in_file, not_in_file, not_written}
 use Rattle.rv_machine.proofs.memory.Memory.part.Goals as goal
 
