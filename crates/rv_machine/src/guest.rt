@@ -3,7 +3,7 @@ ghost use Rattle.std.specs.Prelude.{◌≡◌, ◌<◌, MatchOption, false, true
 ghost use Rattle.guest_model.specs.Areas.{is_range_permitted};
 ghost use Rattle.guest_model.specs.Bytes.{bytes_at};
 ghost use Rattle.guest_model.specs.Effect.{effect_of};
-ghost use Rattle.guest_model.specs.Effect.Effect as effects;
+ghost use Rattle.guest_model.specs.Effect as effects;
 ghost use Rattle.guest_model.specs.Machine.{register, instruction_at};
 ghost use Rattle.guest_model.specs.Call.{finished};
 ghost use Rattle.guest_model.specs.declared.Access.TheVariants.{Read};
@@ -76,6 +76,7 @@ impl Guest {
     }
 
     /// Goes on behind the call at pc, with its result in x10.
+    #[tactic(auto, unfolding(guest_model::specs::Call::finished))]
     pub fn finish_call(&mut self, answer: u32)
         requires { effect_of self.old ≡ effects.Call }
         ensures { self.new ≡ finished self.old answer }

@@ -5,6 +5,8 @@ mod guest;
 mod load;
 mod memory;
 mod step;
+#[cfg(test)]
+mod tests;
 
 pub use guest::Guest;
 pub use load::LoadFault;
