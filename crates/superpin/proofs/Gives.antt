@@ -87,10 +87,19 @@ pub other_port : (t : Told) (p : Place) (before : List Sent) (m : Machine) (new 
 other_port t p before m new here e number other told =
     not_ok t p before m new here e number (ap (λ (b : Bool). b && is_range_permitted Read m.space.areas (register m 11) (register m 12)) (ne_eqb (register m 10) 1 other)) told
 
-pub unreadable : (t : Told) (p : Place) (before : List Sent) (m : Machine) (new : Told) → p.machine ≡ m → effect_of m ≡ Effect.Call → register m 17 ≡ 64 → register m 10 ≡ 1
-    → is_range_permitted Read m.space.areas (register m 11) (register m 12) ≡ false → new ≡ at t p.world before → StepGives t p before (Err faults.NotBuilt) m new
-unreadable t p before m new here e number port is_no told =
-    not_ok t p before m new here e number (ap (λ (n : ℕ). n == 1 && is_range_permitted Read m.space.areas (register m 11) (register m 12)) port ∙ is_no) told
+-- the buffer of a write: its address and its length, as they were read from x11 and x12
+pub record IsBuffer (m : Machine) (a n : ℕ) : Type 0 where
+  pub address : a ≡ register m 11
+  pub size : n ≡ register m 12
+
+readable_as : (m : Machine) (a n : ℕ) (b : Bool) → IsBuffer m a n → is_range_permitted Read m.space.areas a n ≡ b → is_range_permitted Read m.space.areas (register m 11) (register m 12) ≡ b
+readable_as m a n b buffer h =
+    sym (ap (λ (k : ℕ). is_range_permitted Read m.space.areas k n) buffer.address ∙ ap (λ (k : ℕ). is_range_permitted Read m.space.areas (register m 11) k) buffer.size) ∙ h
+
+pub unreadable : (t : Told) (p : Place) (before : List Sent) (m : Machine) (new : Told) (a n : ℕ) → p.machine ≡ m → effect_of m ≡ Effect.Call → register m 17 ≡ 64 → register m 10 ≡ 1 → IsBuffer m a n
+    → is_range_permitted Read m.space.areas a n ≡ false → new ≡ at t p.world before → StepGives t p before (Err faults.NotBuilt) m new
+unreadable t p before m new a n here e number port buffer is_no told =
+    not_ok t p before m new here e number (ap (λ (k : ℕ). k == 1 && is_range_permitted Read m.space.areas (register m 11) (register m 12)) port ∙ readable_as m a n false buffer is_no) told
 
 -- bytes that are sent, behind those before
 sent_behind : (t : Told) (w : World) (before : List Sent) (bytes : List ℕ) → sent_to Out bytes (at t w before) ≡ at t w (before ++ record { port = 1; bytes = bytes } ∷ [])
@@ -100,29 +109,31 @@ sent_behind t w before bytes =
     ap (λ (o : Option (List ℕ)). record t { input = Some w.input; moments = Some w.moments; out = o }) (appended-more t.out (bytes_to 1 before) bytes ∙ ap (appended t.out) more)
 
 -- the step of a write
-write_here : (p : Place) (m : Machine) (bytes : List ℕ) → p.machine ≡ m → effect_of m ≡ Effect.Call → register m 17 ≡ 64 → register m 10 ≡ 1
-    → is_range_permitted Read m.space.areas (register m 11) (register m 12) ≡ true → bytes ≡ bytes_at m.space.bytes (register m 11) (register m 12)
-    → IsStep p (Goes (record p { machine = finished m (register m 12); calls = p.calls + 1 })) (record { port = 1; bytes = bytes } ∷ [])
-write_here p m bytes here e number port readable is =
+write_here : (p : Place) (m : Machine) (a n : ℕ) (bytes : List ℕ) → p.machine ≡ m → effect_of m ≡ Effect.Call → register m 17 ≡ 64 → register m 10 ≡ 1 → IsBuffer m a n
+    → is_range_permitted Read m.space.areas a n ≡ true → bytes ≡ bytes_at m.space.bytes a n
+    → IsStep p (Goes (record p { machine = finished m n; calls = p.calls + 1 })) (record { port = 1; bytes = bytes } ∷ [])
+write_here p m a n bytes here e number port buffer readable is =
     let step = write_step p (ap effect_of here ∙ e) (ap (λ (k : Machine). register k 17) here ∙ number) (ap (λ (k : Machine). register k 10) here ∙ port)
-      (ap (λ (k : Machine). is_range_permitted Read k.space.areas (register k 11) (register k 12)) here ∙ readable) in
+      (ap (λ (k : Machine). is_range_permitted Read k.space.areas (register k 11) (register k 12)) here ∙ readable_as m a n true buffer readable) in
+    let whole : bytes_at m.space.bytes (register m 11) (register m 12) ≡ bytes =
+      sym (is ∙ (ap (λ (k : ℕ). bytes_at m.space.bytes k n) buffer.address ∙ ap (λ (k : ℕ). bytes_at m.space.bytes (register m 11) k) buffer.size)) in
     record {
-      leads = step.leads ∙ ap (λ (k : Machine). Goes (record p { machine = finished k (register k 12); calls = p.calls + 1 })) here;
-      sends = step.sends ∙ (ap (λ (k : Machine). record { port = 1; bytes = bytes_at k.space.bytes (register k 11) (register k 12) } ∷ []) here ∙ ap (λ (xs : List ℕ). record { port = 1; bytes = xs } ∷ []) (sym is));
+      leads = step.leads ∙ (ap (λ (k : Machine). Goes (record p { machine = finished k (register k 12); calls = p.calls + 1 })) here ∙ ap (λ (k : ℕ). Goes (record p { machine = finished m k; calls = p.calls + 1 })) (sym buffer.size));
+      sends = step.sends ∙ (ap (λ (k : Machine). record { port = 1; bytes = bytes_at k.space.bytes (register k 11) (register k 12) } ∷ []) here ∙ ap (λ (xs : List ℕ). record { port = 1; bytes = xs } ∷ []) whole);
     }
 
-pub write_gives : (t : Told) (p : Place) (before : List Sent) (m : Machine) (old new : Told) (bytes : List ℕ) → p.machine ≡ m → effect_of m ≡ Effect.Call → register m 17 ≡ 64 → register m 10 ≡ 1
-    → is_range_permitted Read m.space.areas (register m 11) (register m 12) ≡ true → bytes ≡ bytes_at m.space.bytes (register m 11) (register m 12)
-    → old ≡ at t p.world before → new ≡ sent_to Out bytes old → StepGives t p before (Ok turns.Next) (finished m (register m 12)) new
-write_gives t p before m old new bytes here e number port readable is told wrote =
-    goes t p (record p { machine = finished m (register m 12); calls = p.calls + 1 }) before (record { port = 1; bytes = bytes } ∷ []) new
-      (write_here p m bytes here e number port readable is) (wrote ∙ (ap (sent_to Out bytes) told ∙ sent_behind t p.world before bytes))
+pub write_gives : (t : Told) (p : Place) (before : List Sent) (m : Machine) (old new : Told) (a n : ℕ) (bytes : List ℕ) → p.machine ≡ m → effect_of m ≡ Effect.Call → register m 17 ≡ 64 → register m 10 ≡ 1 → IsBuffer m a n
+    → is_range_permitted Read m.space.areas a n ≡ true → bytes ≡ bytes_at m.space.bytes a n
+    → old ≡ at t p.world before → new ≡ sent_to Out bytes old → StepGives t p before (Ok turns.Next) (finished m n) new
+write_gives t p before m old new a n bytes here e number port buffer readable is told wrote =
+    goes t p (record p { machine = finished m n; calls = p.calls + 1 }) before (record { port = 1; bytes = bytes } ∷ []) new
+      (write_here p m a n bytes here e number port buffer readable is) (wrote ∙ (ap (sent_to Out bytes) told ∙ sent_behind t p.world before bytes))
 
-pub part_gives : (t : Told) (p : Place) (before : List Sent) (m next : Machine) (old new : Told) (bytes : List ℕ) → p.machine ≡ m → effect_of m ≡ Effect.Call → register m 17 ≡ 64 → register m 10 ≡ 1
-    → is_range_permitted Read m.space.areas (register m 11) (register m 12) ≡ true → bytes ≡ bytes_at m.space.bytes (register m 11) (register m 12)
+pub part_gives : (t : Told) (p : Place) (before : List Sent) (m next : Machine) (old new : Told) (a n : ℕ) (bytes : List ℕ) → p.machine ≡ m → effect_of m ≡ Effect.Call → register m 17 ≡ 64 → register m 10 ≡ 1 → IsBuffer m a n
+    → is_range_permitted Read m.space.areas a n ≡ true → bytes ≡ bytes_at m.space.bytes a n
     → old ≡ at t p.world before → PartSent Out bytes old new → StepGives t p before (Err faults.OutputFault) next new
-part_gives t p before m next old new bytes here e number port readable is told part = record {
+part_gives t p before m next old new a n bytes here e number port buffer readable is told part = record {
   bytes = bytes;
-  sends = (write_here p m bytes here e number port readable is).sends;
+  sends = (write_here p m a n bytes here e number port buffer readable is).sends;
   part = subst (λ (q : Told). PartSent Out bytes q new) told part;
 }

@@ -1,7 +1,7 @@
 -- What is answered, and what stands where then.
 use Rattle.std.specs.Prelude.{◌≡◌, ◌≢◌, ℕ, ◌+◌, ◌-◌, ◌^◌, ◌<◌, List, [], ◌++◌, length, Option, None, Some, Result, Ok, Err, ◌⊎◌, ◌↔◌}
 use Rattle.sp_host.specs.Told.{Told, appended, sent as sent_to, PartSent}
-use Rattle.sp_host.specs.Faults.{Source, File, To, Faults, Faulted, Caused}
+use Rattle.sp_host.specs.Faults.{File, To, Faults, Faulted}
 use Rattle.sp_host.specs.declared.host.Port.TheVariants.{Out, Report}
 use Rattle.guest_model.specs.Call.{World}
 use Rattle.guest_model.specs.Runs.{Goes, Over}
@@ -19,14 +19,15 @@ use Rattle.superpin.specs.declared.answer.Refusal.TheVariants as refusals
 abbrev pub WhereAllTold : Told → ((List ℕ → List ℕ) → World → Type 0) → Type 0
 WhereAllTold t P = (files : List ℕ → List ℕ) (w : World) → t.files ≡ Some files → t.input ≡ Some w.input → t.moments ≡ Some w.moments → P files w
 
--- the count that a refusal's cause raised
-abbrev pub refusal_source : Refusal → Option Source
-refusal_source refusals.FileFault = Some File
-refusal_source (refusals.BudgetSpent n) = None
-refusal_source (refusals.OutputFault port) = Some (To port)
-refusal_source refusals.ReportFault = Some (To Report)
-refusal_source refusals.NoMemory = None
-refusal_source refusals.NotBuilt = None
+-- The count that the cause of a refusal raised, and no other: that of files, of the standard output or of the report.
+-- The other refusals come where no count rose.
+abbrev pub CausedBy : Refusal → Faults → Faults → Type 0
+CausedBy refusals.FileFault before now = Faulted File before now
+CausedBy (refusals.BudgetSpent n) before now = now ≡ before
+CausedBy (refusals.OutputFault port) before now = (port ≡ Out) × Faulted (To Out) before now
+CausedBy refusals.ReportFault before now = Faulted (To Report) before now
+CausedBy refusals.NoMemory before now = now ≡ before
+CausedBy refusals.NotBuilt before now = now ≡ before
 
 -- the bytes that stand on the standard output are a beginning of the due ones, and nothing else was written
 pub record IsFront (t : Told) (d : Due) (new : Told) : Type 0 where
@@ -71,7 +72,7 @@ pub record IsRefused (t : Told) (budget : ℕ) (start : Option Place) (d : Due) 
   pub mid : Told
   pub middle : Faults
   pub refuses : Refuses t budget start d refusal mid
-  pub caused : Caused (refusal_source refusal) before middle
+  pub caused : CausedBy refusal before middle
   pub writes : WritesLine refusal mid new middle now
 
 -- the outcome

@@ -1,13 +1,29 @@
 -- What the parts of the top call answer.
 use Rattle.std.specs.Prelude.{◌≡◌, ℕ, List, Option, None, Some, Result, Ok, Err, Vec}
 use Rattle.std.specs.declared.alloc.Global.{Global}
+use Rattle.sp_host.specs.declared.host.Port.TheVariants.{Out}
+use Rattle.sp_host.specs.declared.whole.ReadFault.{ReadFault}
+use Rattle.sp_host.specs.declared.whole.ReadFault.TheVariants as reads
 use Rattle.elf_load.specs.Form.{image_of}
 use Rattle.elf_load.specs.Image.{ImageFields}
 use Rattle.guest_model.specs.Machine.{Machine}
 use Rattle.guest_model.specs.Call.{World}
 use Rattle.superpin.specs.Due.{at_start, place_of_image, start_of}
+use Rattle.superpin.specs.declared.run.RunFault.{RunFault}
+use Rattle.superpin.specs.declared.run.RunFault.TheVariants as runs
 use Rattle.superpin.specs.declared.answer.Refusal.{Refusal}
 use Rattle.superpin.specs.declared.answer.Refusal.TheVariants as refusals
+
+-- the refusal of a fault; a file that is too large is in no form that is built
+abbrev pub refusal_of_read : ReadFault → Refusal
+refusal_of_read reads.FileFault = refusals.FileFault
+refusal_of_read reads.FileTooLarge = refusals.NotBuilt
+refusal_of_read reads.NoMemory = refusals.NoMemory
+
+abbrev pub refusal_of_run : RunFault → Refusal
+refusal_of_run runs.NotBuilt = refusals.NotBuilt
+refusal_of_run (runs.BudgetSpent n) = refusals.BudgetSpent n
+refusal_of_run runs.OutputFault = refusals.OutputFault Out
 
 -- the bytes of a file, or that they are no image
 abbrev pub ReadGives : List ℕ → Result (Vec ℕ Global) Refusal → Type 0

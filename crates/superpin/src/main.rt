@@ -4,8 +4,6 @@
 mod answer;
 mod report;
 mod run;
-#[cfg(test)]
-mod tests;
 mod top;
 mod words;
 

@@ -14,6 +14,10 @@ use rv_isa::mem_size;
 use rv_machine::{End, FaultKind, Guest, Stepped};
 use sp_host::{Host, Port, write_whole};
 
+// The numbers of calls (Linux, asm-generic/unistd.h).
+const WRITE: u32 = 64;
+const EXIT: u32 = 93;
+
 /// Why a run did not end.
 #[derive(Clone, Copy, Debug, PartialEq, Eq)]
 pub enum RunFault {
@@ -70,11 +74,15 @@ fn serve<H: Host>(host: &mut H, guest: &mut Guest) -> Result<Turn, RunFault>
     ensures faults { MatchResult result (λ _. H.faults host.new ≡ H.faults host.old)
         (λ e. Caused (run_source e) (H.faults host.old) (H.faults host.new)) }
 {
-    match guest.reg(17) {
-        64 => write_call(host, guest),
-        93 => Ok(Turn::Over(End::Exit((guest.reg(10) % 256) as u8))),
-        _ => Err(RunFault::NotBuilt),
+    let number = guest.reg(17);
+    if number == WRITE {
+        return write_call(host, guest);
     }
+    if number == EXIT {
+        let status = (guest.reg(10) % 256) as u8;
+        return Ok(Turn::Over(End::Exit(status)));
+    }
+    Err(RunFault::NotBuilt)
 }
 
 // Whether the instruction at pc loads or stores beyond the program's file.

@@ -1,14 +1,13 @@
 // From the words to the answer.
 ghost use Rattle.std.specs.Prelude.{◌≡◌, ◌≢◌, ◌<◌, ◌≤◌, ◌↔◌, ◌^◌, ◌-◌, ℕ, [], length, string_bytes, Some, MatchResult};
 ghost use Rattle.sp_host.specs.Told.{Told, WhereTold};
-ghost use Rattle.sp_host.specs.Faults.{Caused};
 ghost use Rattle.elf_load.specs.Form.{image_of};
 ghost use Rattle.guest_model.specs.Call.{World};
 ghost use Rattle.superpin.specs.Due.{at_start, start_of, due_run, due_of};
 ghost use Rattle.superpin.specs.Run.{at};
-ghost use Rattle.superpin.specs.Outcome.{WhereAllTold, refusal_source, AttemptGives, WritesLine, Outcome, CanRise, IsDelivered, IsCaused, AddsFront};
+ghost use Rattle.superpin.specs.Outcome.{WhereAllTold, CausedBy, AttemptGives, WritesLine, Outcome, CanRise, IsDelivered, IsCaused, AddsFront};
 ghost use Rattle.superpin.specs.Words.{texts};
-ghost use Rattle.superpin.specs.Top.{ReadGives, StartGives, ReadyGives};
+ghost use Rattle.superpin.specs.Top.{refusal_of_read, refusal_of_run, ReadGives, StartGives, ReadyGives};
 
 use crate::answer::{Answer, Refusal};
 use crate::report::{refusal_line, report};
@@ -26,18 +25,41 @@ pub const BUDGET: u64 = 1_000_000_000;
 // The most bytes of a file: two headers and 1,024 words.
 const MAX_FILE: usize = 4180;
 
+impl From<ReadFault> for Refusal {
+    ghost from_gives = { λ fault refusal. refusal ≡ refusal_of_read fault };
+
+    // A file that is too large is in no form that is built.
+    fn from(fault: ReadFault) -> Self {
+        match fault {
+            ReadFault::FileFault => Refusal::FileFault,
+            ReadFault::FileTooLarge => Refusal::NotBuilt,
+            ReadFault::NoMemory => Refusal::NoMemory,
+        }
+    }
+}
+
+impl From<RunFault> for Refusal {
+    ghost from_gives = { λ fault refusal. refusal ≡ refusal_of_run fault };
+
+    fn from(fault: RunFault) -> Self {
+        match fault {
+            RunFault::NotBuilt => Refusal::NotBuilt,
+            RunFault::BudgetSpent { n } => Refusal::BudgetSpent { n },
+            RunFault::OutputFault => Refusal::OutputFault { port: Port::Out },
+        }
+    }
+}
+
 // The bytes of a file, if they are few enough.
 fn read_program<H: Host>(alloc: Global, host: &mut H, name: &str) -> Result<Vec<u8>, Refusal>
     ensures told { H.told host.new ≡ H.told host.old }
     ensures bytes { WhereTold (H.told host.old).files (λ files. ReadGives (files name.now) result) }
     ensures faults { MatchResult result (λ _. H.faults host.new ≡ H.faults host.old)
-        (λ e. Caused (refusal_source e) (H.faults host.old) (H.faults host.new)) }
+        (λ e. CausedBy e (H.faults host.old) (H.faults host.new)) }
 {
     match read_within(alloc, host, name, MAX_FILE) {
         Ok(file) => Ok(file),
-        Err(ReadFault::FileFault) => Err(Refusal::FileFault),
-        Err(ReadFault::FileTooLarge) => Err(Refusal::NotBuilt),
-        Err(ReadFault::NoMemory) => Err(Refusal::NoMemory),
+        Err(fault) => Err(Refusal::from(fault)),
     }
 }
 
@@ -62,7 +84,7 @@ fn ready<H: Host>(alloc: Global, words: &[String], host: &mut H) -> Result<Guest
     ensures told { H.told host.new ≡ H.told host.old }
     ensures guest { WhereTold (H.told host.old).files (λ files. ReadyGives (texts words.now) files result) }
     ensures faults { MatchResult result (λ _. H.faults host.new ≡ H.faults host.old)
-        (λ e. Caused (refusal_source e) (H.faults host.old) (H.faults host.new)) }
+        (λ e. CausedBy e (H.faults host.old) (H.faults host.new)) }
 {
     let Some(name) = file_asked(words) else {
         return Err(Refusal::NotBuilt);
@@ -79,13 +101,11 @@ fn run_guest<H: Host>(alloc: Global, host: &mut H, guest: &mut Guest) -> Result<
     ensures told { (t : Told) (w : World) → H.told host.old ≡ at t w [] →
         AttemptGives t BUDGET (Some (at_start guest.old w)) (due_run BUDGET (at_start guest.old w)) result (H.told host.new) }
     ensures faults { MatchResult result (λ _. H.faults host.new ≡ H.faults host.old)
-        (λ e. Caused (refusal_source e) (H.faults host.old) (H.faults host.new)) }
+        (λ e. CausedBy e (H.faults host.old) (H.faults host.new)) }
 {
     let finish = match execute(host, guest, BUDGET) {
         Ok(finish) => finish,
-        Err(RunFault::NotBuilt) => return Err(Refusal::NotBuilt),
-        Err(RunFault::BudgetSpent { n }) => return Err(Refusal::BudgetSpent { n }),
-        Err(RunFault::OutputFault) => return Err(Refusal::OutputFault { port: Port::Out }),
+        Err(fault) => return Err(Refusal::from(fault)),
     };
     let Ok(text) = report(alloc, &finish) else {
         return Err(Refusal::NoMemory);
@@ -101,7 +121,7 @@ fn attempt<H: Host>(alloc: Global, words: &[String], host: &mut H) -> Result<u8,
     ensures told { WhereAllTold (H.told host.old) (λ files w.
         AttemptGives (H.told host.old) BUDGET (start_of (texts words.now) files w) (due_of BUDGET (texts words.now) files w) result (H.told host.new)) }
     ensures faults { MatchResult result (λ _. H.faults host.new ≡ H.faults host.old)
-        (λ e. Caused (refusal_source e) (H.faults host.old) (H.faults host.new)) }
+        (λ e. CausedBy e (H.faults host.old) (H.faults host.new)) }
 {
     match ready(alloc, words, host) {
         Ok(mut guest) => run_guest(alloc, host, &mut guest),

@@ -1,0 +1,16 @@
+use Rattle.std.proofs.Common.{◌≡◌, [], List}
+use Rattle.sp_host.specs.Told.{Told}
+use Rattle.guest_model.specs.Call.{World}
+use Rattle.superpin.specs.Run.{at}
+use Rattle.superpin.specs.Due.{at_start}
+use Rattle.superpin.proofs.Runs.{SoFar}
+use Rattle.superpin.proofs.run.execute.Given as goal
+
+abbrev pub invariant-loop-steps : goal.invariant-loop-steps
+invariant-loop-steps g l =
+    let told = g.H.Host.told in
+    let faults = g.H.Host.faults in
+    record {
+      same_faults : faults l.host ≡ faults l.fn.host;
+      so_far : (t : Told) (w : World) → told l.fn.host ≡ at t w [] → SoFar t (told l.host) l.guest (at_start l.fn.guest w) l.steps;
+    }

@@ -1,0 +1,36 @@
+use Rattle.std.proofs.Common.{◌≡◌, refl, ap, sym, subst, ◌∙◌}
+use Rattle.std.specs.Prelude.{Some}
+use Rattle.superpin.specs.declared.top.TheConstants.{BUDGET}
+use Rattle.superpin.specs.declared.answer.Refusal.{Refusal}
+use Rattle.superpin.specs.Due.{at_start, due_run}
+use Rattle.superpin.specs.Outcome.{Refuses}
+use Rattle.superpin.proofs.Outcomes.{run_refuses, finishes, no_room, reported, not_reported}
+use Rattle.superpin.proofs.top.run_guest.Goals as goal
+
+pub returns-in-Err-clause-told : goal.returns-in-Err-clause-told
+returns-in-Err-clause-told g c t w is =
+    let p = at_start c.args.guest.now w in
+    let new = g.H.Host.told c.execute.new.host in
+    subst (λ (refusal : Refusal). Refuses t BUDGET (Some p) (due_run BUDGET p) refusal new) (sym c.from.ensures) (run_refuses t new BUDGET p c.in-Err.fault (c.in-Err.ensures.told t w is))
+
+pub returns-in_default-clause-told : goal.returns-in_default-clause-told
+returns-in_default-clause-told g c t w is =
+    let p = at_start c.args.guest.now w in
+    let mid = g.H.Host.told c.execute.new.host in
+    no_room t (due_run BUDGET p) c.in-Ok.finish mid (finishes t mid BUDGET p c.in-Ok.finish (c.in-Ok.ensures.told t w is))
+
+pub returns-in-Ok-write_whole-clause-told : goal.returns-in-Ok-write_whole-clause-told
+returns-in-Ok-write_whole-clause-told g c t w is =
+    let p = at_start c.args.guest.now w in
+    let mid = g.H.Host.told c.execute.new.host in
+    let finish = c.in-Ok.finish in
+    reported t BUDGET (Some p) (due_run BUDGET p) finish mid (g.H.Host.told c.write_whole.new.host) c.as_bytes.result.now c.status.result
+      (finishes t mid BUDGET p finish (c.in-Ok.ensures.told t w is)) (c.as_bytes.ensures.value ∙ c.in-Ok-report.ensures) c.in-Ok-write_whole.ensures.told c.status.ensures
+
+pub returns-clause-told : goal.returns-clause-told
+returns-clause-told g c t w is =
+    let p = at_start c.args.guest.now w in
+    let mid = g.H.Host.told c.execute.new.host in
+    let finish = c.in-Ok.finish in
+    not_reported t BUDGET (Some p) (due_run BUDGET p) finish mid (g.H.Host.told c.write_whole.new.host) c.as_bytes.result.now
+      (finishes t mid BUDGET p finish (c.in-Ok.ensures.told t w is)) (c.as_bytes.ensures.value ∙ c.in-Ok-report.ensures) c.in-Err-write_whole.ensures.told
