@@ -43,14 +43,8 @@ fn word_of(i: &Instr) -> u32
         }
         Form::U => {
             let (low, middle) = (bits(imm, 14, 12), bits(imm, 19, 15));
-            join(
-                opcode,
-                rd,
-                low,
-                middle,
-                bits(imm, 24, 20),
-                bits(imm, 31, 25),
-            )
+            let (upper, top) = (bits(imm, 24, 20), bits(imm, 31, 25));
+            join(opcode, rd, low, middle, upper, top)
         }
         Form::J => {
             let (low, middle) = (bits(imm, 14, 12), bits(imm, 19, 15));
