@@ -106,9 +106,8 @@ fn number_of(bytes: &[u8]) -> u32
     ensures fits { result < 2 ^ (8 * length bytes.now) }
 {
     match bytes {
-        [a] => u32::from(*a),
-        [a, b] => u32::from(u16::from_le_bytes([*a, *b])),
         [a, b, c, d] => u32::from_le_bytes([*a, *b, *c, *d]),
-        _ => 0,
+        [a, b] => u32::from(u16::from_le_bytes([*a, *b])),
+        _ => u32::from(bytes[0]),
     }
 }
