@@ -45,17 +45,17 @@ part_front t new budget p stopped =
     let rest = along built_step built_sent_at (budget - (n + 1)) (after built_step (n + 1) (Goes p)) in
     let le : n + 1 ≤ budget = omega (arith, stopped.within) in
     let step : sent (n + 1) p ≡ sent n p ++ (record { port = 1; bytes = done.bytes } ∷ []) =
-        along-next built_step built_sent_at n (Goes p) stopped.place stopped.stands ∙ ap (λ (xs : List Sent). sent n p ++ xs) done.sends in
+    along-next built_step built_sent_at n (Goes p) stopped.place stopped.stands ∙ ap (λ (xs : List Sent). sent n p ++ xs) done.sends in
     let here : bytes_to 1 (sent (n + 1) p) ≡ before ++ done.bytes =
-        ap (bytes_to 1) step ∙ (bytes_more (sent n p) (record { port = 1; bytes = done.bytes } ∷ []) ∙ ap (λ (xs : List ℕ). before ++ xs) (append-nil done.bytes)) in
+    ap (bytes_to 1) step ∙ (bytes_more (sent n p) (record { port = 1; bytes = done.bytes } ∷ []) ∙ ap (λ (xs : List ℕ). before ++ xs) (append-nil done.bytes)) in
     let whole : (due_run budget p).out ≡ (before ++ done.bytes) ++ bytes_to 1 rest =
-        due_out budget _ (run budget p) (sent budget p)
-        ∙ (ap (bytes_to 1) (sent_later (n + 1) budget p le) ∙ (bytes_more (sent (n + 1) p) rest ∙ ap (λ (xs : List ℕ). xs ++ bytes_to 1 rest) here)) in
+    due_out budget _ (run budget p) (sent budget p)
+    ∙ (ap (bytes_to 1) (sent_later (n + 1) budget p le) ∙ (bytes_more (sent (n + 1) p) rest ∙ ap (λ (xs : List ℕ). xs ++ bytes_to 1 rest) here)) in
     record {
       written = before ++ take k done.bytes;
       rest = drop k done.bytes ++ bytes_to 1 rest;
       is_front =
-        sym (append_assoc (before ++ take k done.bytes) (drop k done.bytes) (bytes_to 1 rest))
-        ∙ (ap (λ (xs : List ℕ). xs ++ bytes_to 1 rest) (append_assoc before (take k done.bytes) (drop k done.bytes) ∙ ap (λ (xs : List ℕ). before ++ xs) (take-append-drop k done.bytes)) ∙ sym whole);
+          sym (append_assoc (before ++ take k done.bytes) (drop k done.bytes) (bytes_to 1 rest))
+          ∙ (ap (λ (xs : List ℕ). xs ++ bytes_to 1 rest) (append_assoc before (take k done.bytes) (drop k done.bytes) ∙ ap (λ (xs : List ℕ). before ++ xs) (take-append-drop k done.bytes)) ∙ sym whole);
       told_is = ap (λ (q : Told). q.out) done.part.sends ∙ appended-more t.out before (take k done.bytes);
     }

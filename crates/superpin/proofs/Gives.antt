@@ -28,9 +28,10 @@ use Rattle.superpin.proofs.Steps.{IsStep, next_step, fault_step, beyond_step, ex
 
 -- a step that goes on
 goes : (t : Told) (p q : Place) (before messages : List Sent) (new : Told) → IsStep p (Goes q) messages → new ≡ at t q.world (before ++ messages) → StepGives t p before (Ok turns.Next) q.machine new
-goes t p q before messages new step told =
-    ( subst (λ (stand : Stand Place Stop). IsAt stand q.machine) (sym step.leads) refl
-    , told ∙ (ap (λ (xs : List Sent). at t q.world (before ++ xs)) (sym step.sends) ∙ ap (λ (w : World). at t w (before ++ built_sent_at p)) (sym (ap world_of step.leads))) )
+goes t p q before messages new step told = (
+  subst (λ (stand : Stand Place Stop). IsAt stand q.machine) (sym step.leads) refl,
+  told ∙ (ap (λ (xs : List Sent). at t q.world (before ++ xs)) (sym step.sends) ∙ ap (λ (w : World). at t w (before ++ built_sent_at p)) (sym (ap world_of step.leads))),
+)
 
 -- a step that sends nothing
 nothing_sent : (t : Told) (p : Place) (before : List Sent) (new : Told) → built_sent_at p ≡ [] → new ≡ at t p.world before → new ≡ at t p.world (before ++ built_sent_at p)
@@ -105,7 +106,7 @@ unreadable t p before m new a n here e number port buffer is_no told =
 sent_behind : (t : Told) (w : World) (before : List Sent) (bytes : List ℕ) → sent_to Out bytes (at t w before) ≡ at t w (before ++ record { port = 1; bytes = bytes } ∷ [])
 sent_behind t w before bytes =
     let more : bytes_to 1 before ++ bytes ≡ bytes_to 1 (before ++ record { port = 1; bytes = bytes } ∷ []) =
-        sym (flat_map-append (to_port 1) before (record { port = 1; bytes = bytes } ∷ []) ∙ ap (λ (xs : List ℕ). bytes_to 1 before ++ xs) (append-nil bytes)) in
+    sym (flat_map-append (to_port 1) before (record { port = 1; bytes = bytes } ∷ []) ∙ ap (λ (xs : List ℕ). bytes_to 1 before ++ xs) (append-nil bytes)) in
     ap (λ (o : Option (List ℕ)). record t { input = Some w.input; moments = Some w.moments; out = o }) (appended-more t.out (bytes_to 1 before) bytes ∙ ap (appended t.out) more)
 
 -- the step of a write
@@ -114,9 +115,9 @@ write_here : (p : Place) (m : Machine) (a n : ℕ) (bytes : List ℕ) → p.mach
     → IsStep p (Goes (record p { machine = finished m n; calls = p.calls + 1 })) (record { port = 1; bytes = bytes } ∷ [])
 write_here p m a n bytes here e number port buffer readable is =
     let step = write_step p (ap effect_of here ∙ e) (ap (λ (k : Machine). register k 17) here ∙ number) (ap (λ (k : Machine). register k 10) here ∙ port)
-      (ap (λ (k : Machine). is_range_permitted Read k.space.areas (register k 11) (register k 12)) here ∙ readable_as m a n true buffer readable) in
+    (ap (λ (k : Machine). is_range_permitted Read k.space.areas (register k 11) (register k 12)) here ∙ readable_as m a n true buffer readable) in
     let whole : bytes_at m.space.bytes (register m 11) (register m 12) ≡ bytes =
-      sym (is ∙ (ap (λ (k : ℕ). bytes_at m.space.bytes k n) buffer.address ∙ ap (λ (k : ℕ). bytes_at m.space.bytes (register m 11) k) buffer.size)) in
+    sym (is ∙ (ap (λ (k : ℕ). bytes_at m.space.bytes k n) buffer.address ∙ ap (λ (k : ℕ). bytes_at m.space.bytes (register m 11) k) buffer.size)) in
     record {
       leads = step.leads ∙ (ap (λ (k : Machine). Goes (record p { machine = finished k (register k 12); calls = p.calls + 1 })) here ∙ ap (λ (k : ℕ). Goes (record p { machine = finished m k; calls = p.calls + 1 })) (sym buffer.size));
       sends = step.sends ∙ (ap (λ (k : Machine). record { port = 1; bytes = bytes_at k.space.bytes (register k 11) (register k 12) } ∷ []) here ∙ ap (λ (xs : List ℕ). record { port = 1; bytes = xs } ∷ []) whole);
@@ -127,7 +128,7 @@ pub write_gives : (t : Told) (p : Place) (before : List Sent) (m : Machine) (old
     → old ≡ at t p.world before → new ≡ sent_to Out bytes old → StepGives t p before (Ok turns.Next) (finished m n) new
 write_gives t p before m old new a n bytes here e number port buffer readable is told wrote =
     goes t p (record p { machine = finished m n; calls = p.calls + 1 }) before (record { port = 1; bytes = bytes } ∷ []) new
-      (write_here p m a n bytes here e number port buffer readable is) (wrote ∙ (ap (sent_to Out bytes) told ∙ sent_behind t p.world before bytes))
+    (write_here p m a n bytes here e number port buffer readable is) (wrote ∙ (ap (sent_to Out bytes) told ∙ sent_behind t p.world before bytes))
 
 pub part_gives : (t : Told) (p : Place) (before : List Sent) (m next : Machine) (old new : Told) (a n : ℕ) (bytes : List ℕ) → p.machine ≡ m → effect_of m ≡ Effect.Call → register m 17 ≡ 64 → register m 10 ≡ 1 → IsBuffer m a n
     → is_range_permitted Read m.space.areas a n ≡ true → bytes ≡ bytes_at m.space.bytes a n

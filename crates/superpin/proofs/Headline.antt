@@ -39,9 +39,9 @@ kept_by refusal old new before now writes = kept before now (writes.rest ≡ [])
 whole : (refusal : Refusal) (old new : Told) (before now : Faults) (writes : WritesLine refusal old new before now) → before.report < 2 ^ 64 - 1 → now.report ≡ before.report → writes.line ≡ refusal_line refusal
 whole refusal old new before now writes below same = ends writes.cause
   where
-  ends : ((writes.rest ≡ []) × (now ≡ before)) ⊎ Faulted (To Report) before now → writes.line ≡ refusal_line refusal
-  ends (inl p) = sym (append-nil writes.line) ∙ (ap (λ (xs : List ℕ). writes.line ++ xs) (sym p.0) ∙ writes.is_front)
-  ends (inr fault) = absurd (omega (arith, fault.rises.rose below, ap (λ (f : Faults). f.report) fault.others))
+    ends : ((writes.rest ≡ []) × (now ≡ before)) ⊎ Faulted (To Report) before now → writes.line ≡ refusal_line refusal
+    ends (inl p) = sym (append-nil writes.line) ∙ (ap (λ (xs : List ℕ). writes.line ++ xs) (sym p.0) ∙ writes.is_front)
+    ends (inr fault) = absurd (omega (arith, fault.rises.rose below, ap (λ (f : Faults). f.report) fault.others))
 
 -- a refusal that is due, with its line
 due_delivered : (t : Told) (d : Due) (refusal : Refusal) (before middle now : Faults) (mid new : Told) → IsDue t d (Refused refusal) mid → d.report ≡ refusal_line refusal → middle ≡ before
@@ -90,8 +90,8 @@ caused_due d refusal before now is other = record {
   no_report = λ e. absurd (other (cc));
 }
   where
-  never : {status : ℕ} → Ended status ≡ Refused refusal → ⊥
-  never e = cc
+    never : {status : ℕ} → Ended status ≡ Refused refusal → ⊥
+    never e = cc
 
 pub causes_of : (t : Told) (budget : ℕ) (start : Option Place) (d : Due) (before now : Faults) (answer : Answer) (new : Told)
     → Outcome t budget start d before answer new now → CanRise before → now.file ≡ before.file → now.out ≡ before.out → answer ≢ Refused refusals.NoMemory → IsCaused d before now answer
@@ -110,7 +110,7 @@ causes_of t budget start d before now (Refused (refusals.OutputFault port)) new 
 causes_of t budget start d before now (Refused refusals.NoMemory) new o can file out some = absurd (some refl)
 causes_of t budget start d before now (Refused refusals.ReportFault) new o can file out some =
     let rose : before.report < now.report =
-        omega (arith, o.caused.rises.rose can.report, ap (λ (f : Faults). f.report) o.caused.others, (kept_by refusals.ReportFault o.mid new o.middle now o.writes).report) in
+    omega (arith, o.caused.rises.rose can.report, ap (λ (f : Faults). f.report) o.caused.others, (kept_by refusals.ReportFault o.mid new o.middle now o.writes).report) in
     record {
       budget = λ n. ((λ e. cc), λ e. let both : Ended o.refuses.0 ≡ Refused (refusals.BudgetSpent n) = sym o.refuses.1 ∙ e in cc);
       not_built = ((λ e. cc), λ e. let both : Ended o.refuses.0 ≡ Refused refusals.NotBuilt = sym o.refuses.1 ∙ e in cc);

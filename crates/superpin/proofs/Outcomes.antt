@@ -99,16 +99,18 @@ no_room t d finish mid done = record { written = d.out; rest = []; left = d.left
 
 pub reported : (t : Told) (budget : ℕ) (start : Option Place) (d : Due) (finish : Finish) (mid new : Told) (text : List ℕ) (status : ℕ) → IsFinished t d finish mid → text ≡ report_of finish.count (stop_by finish.end)
     → new ≡ sent_to Report text mid → status ≡ status_of finish.end → AttemptGives t budget start d (Ok status) new
-reported t budget start d finish mid new text status done is wrote status_is =
-    ( done.answer_is ∙ ap (λ (n : ℕ). Ended n) (sym status_is)
-    , wrote ∙ (ap (sent_to Report text) done.told_is ∙ (delivered_report t d text ∙ ap (delivered t d) (is ∙ sym done.report_is))) )
+reported t budget start d finish mid new text status done is wrote status_is = (
+  done.answer_is ∙ ap (λ (n : ℕ). Ended n) (sym status_is),
+  wrote ∙ (ap (sent_to Report text) done.told_is ∙ (delivered_report t d text ∙ ap (delivered t d) (is ∙ sym done.report_is))),
+)
 
 pub not_reported : (t : Told) (budget : ℕ) (start : Option Place) (d : Due) (finish : Finish) (mid new : Told) (text : List ℕ) → IsFinished t d finish mid → text ≡ report_of finish.count (stop_by finish.end)
     → PartSent Report text mid new → Refuses t budget start d refusals.ReportFault new
-not_reported t budget start d finish mid new text done is wrote =
-    ( status_of finish.end
-    , done.answer_is
-    , subst (λ (q : Told). PartSent Report d.report q new) done.told_is (subst (λ (xs : List ℕ). PartSent Report xs mid new) (is ∙ sym done.report_is) wrote) )
+not_reported t budget start d finish mid new text done is wrote = (
+  status_of finish.end,
+  done.answer_is,
+  subst (λ (q : Told). PartSent Report d.report q new) done.told_is (subst (λ (xs : List ℕ). PartSent Report xs mid new) (is ∙ sym done.report_is) wrote),
+)
 
 -- before the run nothing was written
 pub nothing_written : (t : Told) (d : Due) (w : World) (new : Told) → t.input ≡ Some w.input → t.moments ≡ Some w.moments → new ≡ t → IsFront t d new

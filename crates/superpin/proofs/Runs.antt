@@ -43,9 +43,9 @@ fault_without : (m : Machine) (o : Option ℕ) → is_some (option_and_then deco
 fault_without m None h = tt
 fault_without m (Some word) h = without (decoded word) h
   where
-  without : (i : Option Fields) → is_some i ≡ false → IsFault (effect_of_instruction m i)
-  without None e = tt
-  without (Some i) e = absurd (true≢false e)
+    without : (i : Option Fields) → is_some i ≡ false → IsFault (effect_of_instruction m i)
+    without None e = tt
+    without (Some i) e = absurd (true≢false e)
 
 pub fault_at : (m : Machine) → is_some (instruction_at m) ≡ false → IsFault (effect_of m)
 unfolding effect_of
@@ -114,20 +114,22 @@ pub ends_run : (t now new : Told) (m next : Machine) (p : Place) (steps budget :
     → RunGives t budget p (Ok (record { end = end; count = steps + cond c 1 0 })) new
 ends_run t now new m next p steps budget before end c lt is gives =
     let q = before.place in
-    let has : is_some (instruction_at q.machine) ≡ c = ap (λ (k : Machine). is_some (instruction_at k)) (sym gives.1) ∙ is in
-    ( q
-    , after-last built_step steps budget (Goes p) q q (stop_by end) lt before.stands gives.0
-    , sym (ap length (along-last built_step built_item_at steps budget (Goes p) q q (stop_by end) lt before.stands gives.0) ∙ counted_more p steps q c before.stands before.counted has)
-    , gives.2 ∙ ap (at t q.world) (sym (along-last built_step built_sent_at steps budget (Goes p) q q (stop_by end) lt before.stands gives.0)) )
+    let has : is_some (instruction_at q.machine) ≡ c = ap (λ (k : Machine). is_some (instruction_at k)) (sym gives.1) ∙ is in (
+      q,
+      after-last built_step steps budget (Goes p) q q (stop_by end) lt before.stands gives.0,
+      sym (ap length (along-last built_step built_item_at steps budget (Goes p) q q (stop_by end) lt before.stands gives.0) ∙ counted_more p steps q c before.stands before.counted has),
+      gives.2 ∙ ap (at t q.world) (sym (along-last built_step built_sent_at steps budget (Goes p) q q (stop_by end) lt before.stands gives.0)),
+    )
 
 -- a run that a fault stops
 pub faults_run : (t now new : Told) (m next : Machine) (p : Place) (steps budget : ℕ) (before : SoFar t now m p steps) (fault : RunFault) → steps < budget
     → StepGives t before.place (sent steps p) (Err fault) next new → RunGives t budget p (Err fault) new
 faults_run t now new m next p steps budget before faults.NotBuilt lt gives =
-    let q = before.place in
-    ( q
-    , after-last built_step steps budget (Goes p) q q NotBuilt lt before.stands gives.0
-    , gives.1 ∙ ap (at t q.world) (sym (along-last built_step built_sent_at steps budget (Goes p) q q NotBuilt lt before.stands gives.0)) )
+    let q = before.place in (
+      q,
+      after-last built_step steps budget (Goes p) q q NotBuilt lt before.stands gives.0,
+      gives.1 ∙ ap (at t q.world) (sym (along-last built_step built_sent_at steps budget (Goes p) q q NotBuilt lt before.stands gives.0)),
+    )
 faults_run t now new m next p steps budget before (faults.BudgetSpent n) lt gives = absurd gives
 faults_run t now new m next p steps budget before faults.OutputFault lt gives = record { steps = steps; within = lt; place = before.place; stands = before.stands; holds = gives }
 

@@ -99,7 +99,7 @@ write_is m w number port readable = ap (λ (n : ℕ). call_by n m w) number ∙ 
 pub write_step : (p : Place) → effect_of p.machine ≡ Effect.Call → call_number p.machine ≡ 64 → argument p.machine 0 ≡ 1
     → is_range_permitted Read p.machine.space.areas (argument p.machine 1) (argument p.machine 2) ≡ true
     → IsStep p (Goes (record p { machine = finished p.machine (argument p.machine 2); calls = p.calls + 1 }))
-        (record { port = 1; bytes = bytes_at p.machine.space.bytes (argument p.machine 1) (argument p.machine 2) } ∷ [])
+    (record { port = 1; bytes = bytes_at p.machine.space.bytes (argument p.machine 1) (argument p.machine 2) } ∷ [])
 write_step p h number port readable =
     let allowed : is_built_call p.machine ≡ true = rw (number, port, readable) refl in
     let is = write_is p.machine p.world number port readable in

@@ -4,6 +4,8 @@
 mod answer;
 mod report;
 mod run;
+#[cfg(test)]
+mod tests;
 mod top;
 mod words;
 

@@ -70,7 +70,11 @@ pub fn refusal_line(refusal: &Refusal) -> ArrayString<96>
             let mut buffer = Buffer::new();
             joined("superpin: 7 budget ", buffer.format(*n), " spent\n")
         }
-        Refusal::OutputFault { port } => joined("superpin: 9 output fault ", port_name(*port), "\n"),
+        Refusal::OutputFault { port } => joined(
+            "superpin: 9 output fault ",
+            port_name(*port),
+            "\n",
+        ),
         Refusal::ReportFault => ArrayString::new(),
         Refusal::NoMemory => joined("superpin: 11 no memory\n", "", ""),
         Refusal::NotBuilt => joined("superpin: 90 not built\n", "", ""),

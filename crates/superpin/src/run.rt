@@ -16,6 +16,7 @@ use sp_host::{Host, Port, write_whole};
 
 // The numbers of calls (Linux, asm-generic/unistd.h).
 const WRITE: u32 = 64;
+
 const EXIT: u32 = 93;
 
 /// Why a run did not end.
@@ -105,7 +106,10 @@ fn fault(guest: &Guest, kind: FaultKind) -> Result<Turn, RunFault>
     if reaches_beyond(guest) {
         Err(RunFault::NotBuilt)
     } else {
-        Ok(Turn::Over(End::Signal { kind, pc: guest.pc() }))
+        Ok(Turn::Over(End::Signal {
+            kind,
+            pc: guest.pc(),
+        }))
     }
 }
 
@@ -134,7 +138,11 @@ pub fn execute<H: Host>(host: &mut H, guest: &mut Guest, budget: u64) -> Result<
         match step(host, guest)? {
             Turn::Next => {}
             Turn::Over(end) => {
-                let count = if guest.peek().is_some() { steps + 1 } else { steps };
+                let count = if guest.peek().is_some() {
+                    steps + 1
+                } else {
+                    steps
+                };
                 return Ok(Finish { end, count });
             }
         }

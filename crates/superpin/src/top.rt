@@ -144,7 +144,12 @@ fn refuse<H: Host>(host: &mut H, refusal: &Refusal)
 /// or the line of a refusal, to the port of reports. The pacer is not asked.
 ///
 /// The answer is the due one: the status of the run, or the refusal. `NoMemory` is answered only where memory was not found.
-pub fn superpin<H: Host + Send, P: Pacer + Send>(alloc: Global, words: &[String], host: &mut H, pacer: &mut P) -> Answer
+pub fn superpin<H: Host + Send, P: Pacer + Send>(
+    alloc: Global,
+    words: &[String],
+    host: &mut H,
+    pacer: &mut P,
+) -> Answer
     // The causes that show on every host.
     ensures file_fault { (H.faults host.old).file < 2 ^ 64 - 1 →
         ((result ≡ Answer.Refused Refusal.FileFault) ↔ ((H.faults host.old).file < (H.faults host.new).file)) }
@@ -160,7 +165,7 @@ pub fn superpin<H: Host + Send, P: Pacer + Send>(alloc: Global, words: &[String]
     // Where the host tells: what is answered, and what stands where then, for each answer.
     ensures outcome { WhereAllTold (H.told host.old) (λ files w.
         Outcome (H.told host.old) BUDGET (start_of (texts words.now) files w) (due_of BUDGET (texts words.now) files w)
-            (H.faults host.old) result (H.told host.new) (H.faults host.new)) }
+        (H.faults host.old) result (H.told host.new) (H.faults host.new)) }
 
     // The headline: where no count rose, the answer is the due one with exactly the due bytes, or want of memory.
     ensures headline { WhereAllTold (H.told host.old) (λ files w.

@@ -18,7 +18,9 @@ pub fn file_asked(words: &[String]) -> Option<&String>
     let [command, option, value, name] = words else {
         return None;
     };
-    let is_run = command.as_str() == "run" && option.as_str() == "--by" && value.as_str() == "serial";
+    let is_run = command.as_str() == "run"
+        && option.as_str() == "--by"
+        && value.as_str() == "serial";
     if is_run && is_name(name.as_bytes()) {
         Some(name)
     } else {

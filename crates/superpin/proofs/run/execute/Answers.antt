@@ -25,7 +25,7 @@ returns-in_err-step-clause-told g c t w is =
     let e : c.from_residual.result ≡ Err c.in_err-step.field-0.0 = err.1 ∙ ap (λ (f : RunFault). Err f) err.2 in
     let gives = c.in_err-step.ensures.told t before.place (sent c.loop-steps.steps p) before.machine_is before.told_is in
     subst (λ (r : Result Finish RunFault). RunGives t c.args.budget p r new) (sym e)
-      (faults_run t (g.H.Host.told c.loop-steps.host) new c.loop-steps.guest c.step.new.guest p c.loop-steps.steps c.args.budget before c.in_err-step.field-0.0 c.loop-steps-test.true gives)
+    (faults_run t (g.H.Host.told c.loop-steps.host) new c.loop-steps.guest c.step.new.guest p c.loop-steps.steps c.args.budget before c.in_err-step.field-0.0 c.loop-steps-test.true gives)
 
 pub returns-then-is_some-clause-told : goal.returns-then-is_some-clause-told
 returns-then-is_some-clause-told g c t w is =
@@ -33,7 +33,7 @@ returns-then-is_some-clause-told g c t w is =
     let before = c.loop-steps.invariant.so_far t w is in
     let new = g.H.Host.told c.step.new.host in
     let gives = subst (λ (turn : Turn). StepGives t before.place (sent c.loop-steps.steps p) (Ok turn) c.step.new.guest new) c.in-Over.is
-      (c.in_ok-step.ensures.told t before.place (sent c.loop-steps.steps p) before.machine_is before.told_is) in
+    (c.in_ok-step.ensures.told t before.place (sent c.loop-steps.steps p) before.machine_is before.told_is) in
     let has : is_some (instruction_at c.step.new.guest) ≡ true = ap (λ (i : Option Fields). is_some i) (sym c.peek.ensures) ∙ sym c.is_some.ensures ∙ c.if-is_some.true in
     ends_run t (g.H.Host.told c.loop-steps.host) new c.loop-steps.guest c.step.new.guest p c.loop-steps.steps c.args.budget before c.in-Over.end true c.loop-steps-test.true has gives
 
@@ -43,7 +43,7 @@ returns-else-is_some-clause-told g c t w is =
     let before = c.loop-steps.invariant.so_far t w is in
     let new = g.H.Host.told c.step.new.host in
     let gives = subst (λ (turn : Turn). StepGives t before.place (sent c.loop-steps.steps p) (Ok turn) c.step.new.guest new) c.in-Over.is
-      (c.in_ok-step.ensures.told t before.place (sent c.loop-steps.steps p) before.machine_is before.told_is) in
+    (c.in_ok-step.ensures.told t before.place (sent c.loop-steps.steps p) before.machine_is before.told_is) in
     let has : is_some (instruction_at c.step.new.guest) ≡ false = ap (λ (i : Option Fields). is_some i) (sym c.peek.ensures) ∙ sym c.is_some.ensures ∙ c.if-is_some.false in
     let all = ends_run t (g.H.Host.told c.loop-steps.host) new c.loop-steps.guest c.step.new.guest p c.loop-steps.steps c.args.budget before c.in-Over.end false c.loop-steps-test.true has gives in
     (all.0, all.1, sym (add-zero c.loop-steps.steps) ∙ all.2, all.3)
@@ -52,12 +52,12 @@ pub loop-steps-preserved : goal.loop-steps-preserved
 loop-steps-preserved g c = record {
   same_faults = c.in_ok-step.ensures.faults ∙ c.loop-steps.invariant.same_faults;
   so_far = λ t w is.
-    let p = at_start c.args.guest.now w in
-    let before = c.loop-steps.invariant.so_far t w is in
-    let new = g.H.Host.told c.step.new.host in
-    let gives = subst (λ (turn : Turn). StepGives t before.place (sent c.loop-steps.steps p) (Ok turn) c.step.new.guest new) c.in-Next.is
+      let p = at_start c.args.guest.now w in
+      let before = c.loop-steps.invariant.so_far t w is in
+      let new = g.H.Host.told c.step.new.host in
+      let gives = subst (λ (turn : Turn). StepGives t before.place (sent c.loop-steps.steps p) (Ok turn) c.step.new.guest new) c.in-Next.is
       (c.in_ok-step.ensures.told t before.place (sent c.loop-steps.steps p) before.machine_is before.told_is) in
-    next_so_far t (g.H.Host.told c.loop-steps.host) new c.loop-steps.guest c.step.new.guest p c.loop-steps.steps before gives;
+      next_so_far t (g.H.Host.told c.loop-steps.host) new c.loop-steps.guest c.step.new.guest p c.loop-steps.steps before gives;
 }
 
 pub returns-clause-told : goal.returns-clause-told

@@ -31,4 +31,4 @@ returns-clause-told g c t p before here told =
     let port : register m 10 ≡ 1 = sym c.reg.ensures ∙ c.if-reg-ne1.false in
     let buffer : IsBuffer m c.reg-2.result c.reg-len.result = record { address = c.reg-2.ensures; size = c.reg-len.ensures } in
     subst (λ (k : Machine). StepGives t p before (Ok Next) k new) (sym c.finish_call.ensures)
-      (write_gives t p before m (g.H.Host.told c.args.host.now) new c.reg-2.result c.reg-len.result c.in-Some.bytes.now here c.requires.call c.requires.number port buffer c.in-Some.ensures.0 c.in-Some.ensures.1 told c.in-Ok.ensures.told)
+    (write_gives t p before m (g.H.Host.told c.args.host.now) new c.reg-2.result c.reg-len.result c.in-Some.bytes.now here c.requires.call c.requires.number port buffer c.in-Some.ensures.0 c.in-Some.ensures.1 told c.in-Ok.ensures.told)

@@ -25,7 +25,7 @@ returns-in-Ok-write_whole-clause-told g c t w is =
     let mid = g.H.Host.told c.execute.new.host in
     let finish = c.in-Ok.finish in
     reported t BUDGET (Some p) (due_run BUDGET p) finish mid (g.H.Host.told c.write_whole.new.host) c.as_bytes.result.now c.status.result
-      (finishes t mid BUDGET p finish (c.in-Ok.ensures.told t w is)) (c.as_bytes.ensures.value ∙ c.in-Ok-report.ensures) c.in-Ok-write_whole.ensures.told c.status.ensures
+    (finishes t mid BUDGET p finish (c.in-Ok.ensures.told t w is)) (c.as_bytes.ensures.value ∙ c.in-Ok-report.ensures) c.in-Ok-write_whole.ensures.told c.status.ensures
 
 pub returns-clause-told : goal.returns-clause-told
 returns-clause-told g c t w is =
@@ -33,4 +33,4 @@ returns-clause-told g c t w is =
     let mid = g.H.Host.told c.execute.new.host in
     let finish = c.in-Ok.finish in
     not_reported t BUDGET (Some p) (due_run BUDGET p) finish mid (g.H.Host.told c.write_whole.new.host) c.as_bytes.result.now
-      (finishes t mid BUDGET p finish (c.in-Ok.ensures.told t w is)) (c.as_bytes.ensures.value ∙ c.in-Ok-report.ensures) c.in-Err-write_whole.ensures.told
+    (finishes t mid BUDGET p finish (c.in-Ok.ensures.told t w is)) (c.as_bytes.ensures.value ∙ c.in-Ok-report.ensures) c.in-Err-write_whole.ensures.told
