@@ -1,5 +1,5 @@
 -- What a call does (Linux, RISC-V with 32 bits): its number is in x17, its arguments in x10 to x15, its result goes to x10.
-use Rattle.std.specs.Prelude.{ℕ, ◌+◌, ◌-◌, ◌%◌, ◌^◌, ◌==◌, Bool, true, ◌||◌, not, List, [], ◌∷◌, if◌then◌else◌, slice_set}
+use Rattle.std.specs.Prelude.{ℕ, ◌+◌, ◌-◌, ◌%◌, ◌^◌, ◌==◌, true, ◌||◌, not, List, [], ◌∷◌, if◌then◌else◌, slice_set}
 use Rattle.guest_model.specs.Areas.{is_range_permitted}
 use Rattle.guest_model.specs.Bytes.{bytes_at}
 use Rattle.guest_model.specs.Machine.{Machine, register, following}

@@ -4,7 +4,7 @@ use Rattle.std.specs.List.{flat_map}
 use Rattle.rv_isa.specs.Table.{Fields}
 use Rattle.guest_model.specs.Machine.{Machine, instruction_at}
 use Rattle.guest_model.specs.Effect.{Effect, Next, Call, Fault, effect_of}
-use Rattle.guest_model.specs.Call.{World, Sent, CallRecord, Called, Went, Exits, Untabled, call_of}
+use Rattle.guest_model.specs.Call.{World, Sent, Called, Went, Exits, Untabled, call_of}
 use Rattle.guest_model.specs.Runs.{Stand, Goes, Over, after, along}
 
 -- a position of a run: the machine, the world, and the number of calls that went on before it

@@ -1,16 +1,15 @@
 -- What a run has sent is a beginning of what a longer one sends.
-use Rattle.std.proofs.Common.{◌≡◌, ◌<◌, ◌≤◌, ◌+◌, ◌-◌, ◌++◌, ℕ, List, [], ◌∷◌, take, drop, refl, ap, sym, ◌∙◌, arith, append_assoc}
-use Rattle.std.specs.Prelude.{Option, None, Some}
+use Rattle.std.proofs.Common.{◌≡◌, ◌≤◌, ◌+◌, ◌-◌, ◌++◌, ℕ, List, [], ◌∷◌, take, drop, refl, ap, sym, ◌∙◌, arith, append_assoc}
 use Rattle.std.proofs.lemmas.List.{append-nil, take-append-drop}
 use Rattle.std.proofs.lemmas.Grind.{flat_map-append}
-use Rattle.sp_host.specs.Told.{Told, appended, PartSent}
+use Rattle.sp_host.specs.Told.{Told}
 use Rattle.sp_host.proofs.Told.{appended-more}
 use Rattle.guest_model.specs.Call.{Sent}
 use Rattle.guest_model.specs.Runs.{Stand, Goes, Over, after, along}
 use Rattle.guest_model.specs.Serial.{Place, bytes_to, to_port}
 use Rattle.guest_model.proofs.Runs.{along-add, along-next}
-use Rattle.superpin.specs.Built.{Stop, Exit, Signal, NotBuilt, built_step, built_sent_at, run, sent, trace}
-use Rattle.superpin.specs.Run.{at, StepBefore, PartDone}
+use Rattle.superpin.specs.Built.{Stop, Exit, Signal, NotBuilt, built_step, built_sent_at, run, sent}
+use Rattle.superpin.specs.Run.{StepBefore, PartDone}
 use Rattle.superpin.specs.Due.{due_stand, due_run}
 use Rattle.superpin.specs.Outcome.{AddsFront}
 

@@ -1,5 +1,5 @@
 -- What a step of the code answers, from what the step of the run is.
-use Rattle.std.proofs.Common.{◌≡◌, ◌≢◌, ◌+◌, ◌%◌, ℕ, List, [], ◌∷◌, ◌++◌, take, refl, sym, ap, subst, ◌∙◌, arith}
+use Rattle.std.proofs.Common.{◌≡◌, ◌≢◌, ◌+◌, ◌%◌, ℕ, List, [], ◌∷◌, ◌++◌, refl, sym, ap, subst, ◌∙◌}
 use Rattle.std.specs.Prelude.{true, false, Bool, Option, Some, Ok, Err, Result, ◌==◌, ◌&&◌}
 use Rattle.std.proofs.lemmas.Bool.{ne_eqb}
 use Rattle.std.proofs.lemmas.List.{append-nil}
@@ -18,8 +18,8 @@ use Rattle.guest_model.specs.declared.Access.TheVariants.{Read}
 use Rattle.rv_machine.specs.Step.{kind_number}
 use Rattle.rv_machine.specs.declared.step.FaultKind.{FaultKind}
 use Rattle.rv_machine.specs.declared.step.End.{End}
-use Rattle.superpin.specs.Built.{Stop, Exit, Signal, NotBuilt, stays_inside, built_step, built_sent_at}
-use Rattle.superpin.specs.Run.{at, stop_by, IsAt, world_of, FaultGives, StepGives, PartDone}
+use Rattle.superpin.specs.Built.{Stop, Exit, Signal, NotBuilt, stays_inside, built_sent_at}
+use Rattle.superpin.specs.Run.{at, stop_by, IsAt, world_of, FaultGives, StepGives}
 use Rattle.superpin.specs.declared.run.Turn.{Turn}
 use Rattle.superpin.specs.declared.run.Turn.TheVariants as turns
 use Rattle.superpin.specs.declared.run.RunFault.{RunFault}

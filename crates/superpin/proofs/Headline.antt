@@ -1,8 +1,8 @@
 -- What follows from the outcome.
-use Rattle.std.proofs.Common.{◌≡◌, ◌≢◌, ◌<◌, ◌≤◌, ◌+◌, ◌-◌, ◌^◌, ◌++◌, ◌⊎◌, ◌↔◌, ℕ, List, [], length, refl, ap, sym, subst, ◌∙◌, arith, inl, inr}
+use Rattle.std.proofs.Common.{◌≡◌, ◌≢◌, ◌<◌, ◌≤◌, ◌-◌, ◌^◌, ◌++◌, ◌⊎◌, ℕ, List, [], refl, ap, sym, subst, ◌∙◌, arith, inl, inr}
 use Rattle.std.specs.Prelude.{Option, None, Some}
 use Rattle.std.proofs.lemmas.List.{append-nil}
-use Rattle.sp_host.specs.Told.{Told, appended, sent as sent_to, PartSent}
+use Rattle.sp_host.specs.Told.{Told, appended, sent as sent_to}
 use Rattle.sp_host.specs.Faults.{To, Faults, Faulted}
 use Rattle.sp_host.specs.declared.host.Port.{Port}
 use Rattle.sp_host.specs.declared.host.Port.TheVariants.{Out, Report}
@@ -10,11 +10,11 @@ use Rattle.sp_host.proofs.Told.{appended-nil}
 use Rattle.guest_model.specs.Call.{World, Sent}
 use Rattle.guest_model.specs.Runs.{Stand, Goes, Over}
 use Rattle.guest_model.specs.Serial.{Place}
-use Rattle.superpin.specs.Built.{Stop, Exit, Signal, NotBuilt, run, sent, trace}
+use Rattle.superpin.specs.Built.{Stop, Exit, Signal, NotBuilt, run, sent}
 use Rattle.superpin.specs.Run.{StepBefore, PartDone}
 use Rattle.superpin.specs.Report.{refusal_line}
-use Rattle.superpin.specs.Due.{Due, due_ended, due_stand, due_run, due_start, delivered}
-use Rattle.superpin.specs.Outcome.{CausedBy, IsFront, IsDue, Refuses, WritesLine, IsRefused, Outcome, CanRise, IsDelivered, IsReported, IsCaused, AddsFront}
+use Rattle.superpin.specs.Due.{Due, due_ended, due_stand, due_start, delivered}
+use Rattle.superpin.specs.Outcome.{CausedBy, IsDue, Refuses, WritesLine, Outcome, CanRise, IsDelivered, IsCaused, AddsFront}
 use Rattle.superpin.specs.declared.answer.Answer.{Answer}
 use Rattle.superpin.specs.declared.answer.Answer.TheVariants.{Ended, Refused}
 use Rattle.superpin.specs.declared.answer.Refusal.{Refusal}

@@ -1,24 +1,22 @@
 -- From what the parts answer to what is due.
-use Rattle.std.proofs.Common.{◌≡◌, ◌<◌, ◌≤◌, ◌+◌, ◌-◌, ◌++◌, ℕ, List, [], ◌∷◌, take, drop, length, refl, ap, sym, subst, ◌∙◌, arith, append_assoc}
-use Rattle.std.specs.Prelude.{Option, None, Some, Result, Ok, Err}
-use Rattle.std.proofs.lemmas.List.{append-nil, take-append-drop}
+use Rattle.std.proofs.Common.{◌≡◌, ℕ, List, [], length, refl, ap, sym, subst, ◌∙◌}
+use Rattle.std.specs.Prelude.{Option, None, Some, Ok, Err}
+use Rattle.std.proofs.lemmas.List.{append-nil}
 use Rattle.sp_host.specs.Told.{Told, appended, sent as sent_to, PartSent}
-use Rattle.sp_host.specs.declared.host.Port.TheVariants.{Out, Report}
+use Rattle.sp_host.specs.declared.host.Port.TheVariants.{Report}
 use Rattle.sp_host.proofs.Told.{appended-nil, appended-more}
-use Rattle.guest_model.specs.Call.{World, Sent}
+use Rattle.guest_model.specs.Call.{World}
 use Rattle.guest_model.specs.Runs.{Stand, Goes, Over}
-use Rattle.guest_model.specs.Serial.{Place, bytes_to}
+use Rattle.guest_model.specs.Serial.{Place}
 use Rattle.rv_machine.specs.Step.{kind_number, status_of}
 use Rattle.rv_machine.specs.declared.step.End.{End}
 use Rattle.rv_machine.specs.declared.step.End.TheVariants as ends
 use Rattle.superpin.specs.Built.{Stop, Exit, Signal, NotBuilt, run, sent, trace}
-use Rattle.superpin.specs.Run.{at, stop_by, RunGives, StepBefore, PartDone}
+use Rattle.superpin.specs.Run.{at, stop_by, RunGives}
 use Rattle.superpin.specs.Report.{report_of}
 use Rattle.superpin.specs.Due.{Due, due_run, due_stand, due_start, delivered}
 use Rattle.superpin.specs.Outcome.{IsFront, IsDue, Refuses, AttemptGives}
-use Rattle.superpin.specs.declared.answer.Answer.{Answer}
 use Rattle.superpin.specs.declared.answer.Answer.TheVariants.{Ended, Refused}
-use Rattle.superpin.specs.declared.answer.Refusal.{Refusal}
 use Rattle.superpin.specs.declared.answer.Refusal.TheVariants as refusals
 use Rattle.superpin.specs.declared.run.Finish.{Finish}
 use Rattle.superpin.specs.declared.run.RunFault.{RunFault}

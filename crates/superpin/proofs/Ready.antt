@@ -1,6 +1,6 @@
 -- The run that the words ask for, from the parts of the top call.
-use Rattle.std.proofs.Common.{◌≡◌, ◌<◌, ◌≤◌, ℕ, List, length, refl, ap, sym, subst, ◌∙◌, arith, inl, inr}
-use Rattle.std.specs.Prelude.{Option, None, Some, Result, Ok, Err, true, false, Bool, if◌then◌else◌}
+use Rattle.std.proofs.Common.{◌≡◌, ◌<◌, ℕ, List, length, ap, sym, subst, ◌∙◌, arith, inl, inr}
+use Rattle.std.specs.Prelude.{Option, None, Some, Result, Ok, Err, Bool, if◌then◌else◌}
 use Rattle.std.proofs.lemmas.Bool.{cases_Bool}
 use Rattle.sp_host.specs.Told.{Told}
 use Rattle.sp_host.specs.Whole.{FaultFits}
@@ -13,7 +13,7 @@ use Rattle.guest_model.specs.Machine.{Machine}
 use Rattle.guest_model.specs.Call.{World}
 use Rattle.guest_model.specs.Serial.{Place}
 use Rattle.superpin.specs.Words.{asked}
-use Rattle.superpin.specs.Due.{at_start, place_of_image, place_of_name, start_of, due_run, due_start}
+use Rattle.superpin.specs.Due.{place_of_image, place_of_name, start_of, due_run, due_start}
 use Rattle.superpin.specs.Outcome.{Refuses, AttemptGives}
 use Rattle.superpin.specs.Top.{refusal_of_read, ReadGives, StartGives, ReadyGives}
 use Rattle.superpin.specs.declared.answer.Refusal.{Refusal}

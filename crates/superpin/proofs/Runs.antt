@@ -1,25 +1,23 @@
 -- The run as far as it is built, step by step.
-use Rattle.std.proofs.Common.{◌≡◌, ◌<◌, ◌≤◌, ◌+◌, ◌-◌, ℕ, List, [], ◌∷◌, ◌++◌, length, refl, sym, ap, ◌∙◌, arith, inl, inr, length-append}
-use Rattle.std.specs.Prelude.{true, false, Bool, Option, None, Some, cond, is_some, Ok, Err, Result, option_and_then}
+use Rattle.std.proofs.Common.{◌≡◌, ◌<◌, ◌+◌, ℕ, [], ◌++◌, length, refl, sym, ap, ◌∙◌, inl, inr, length-append}
+use Rattle.std.specs.Prelude.{true, false, Bool, Option, None, Some, cond, is_some, Ok, Err, option_and_then}
 use Rattle.std.proofs.lemmas.Bool.{cases_Bool, true≢false}
-use Rattle.sp_host.specs.Told.{Told, PartSent}
+use Rattle.sp_host.specs.Told.{Told}
 use Rattle.rv_isa.specs.Table.{Fields}
 use Rattle.rv_isa.specs.Decoded.{decoded}
 use Rattle.guest_model.specs.Machine.{Machine, instruction_at}
 use Rattle.guest_model.specs.Effect.{Effect, effect_of, effect_of_word, effect_of_instruction}
-use Rattle.guest_model.specs.Call.{World, Sent}
+use Rattle.guest_model.specs.Call.{World}
 use Rattle.guest_model.specs.Space.{read_number}
 use Rattle.guest_model.specs.declared.Access.TheVariants.{Execute}
-use Rattle.guest_model.specs.Runs.{Stand, Goes, Over, after, along}
-use Rattle.guest_model.specs.Serial.{Place, Item, item_of, item_with, completed}
+use Rattle.guest_model.specs.Runs.{Stand, Goes, Over}
+use Rattle.guest_model.specs.Serial.{Place, item_of, item_with, completed}
 use Rattle.guest_model.proofs.Runs.{after-zero, along-zero, after-next, along-next, after-last, along-last}
 use Rattle.rv_machine.specs.declared.step.End.{End}
-use Rattle.superpin.specs.Built.{Stop, Exit, Signal, NotBuilt, built_step, built_sent_at, built_item_at, run, sent, trace, stays_inside}
-use Rattle.superpin.specs.Run.{at, stop_by, IsAt, world_of, StepGives, RunGives, StepBefore, PartDone}
+use Rattle.superpin.specs.Built.{Stop, NotBuilt, built_step, built_sent_at, built_item_at, run, sent, trace, stays_inside}
+use Rattle.superpin.specs.Run.{at, stop_by, IsAt, world_of, StepGives, RunGives}
 use Rattle.superpin.specs.Due.{at_start}
-use Rattle.superpin.specs.declared.run.Turn.{Turn}
 use Rattle.superpin.specs.declared.run.Turn.TheVariants as turns
-use Rattle.superpin.specs.declared.run.Finish.{Finish}
 use Rattle.superpin.specs.declared.run.RunFault.{RunFault}
 use Rattle.superpin.specs.declared.run.RunFault.TheVariants as faults
 use Rattle.superpin.proofs.Steps.{fault_step, beyond_step}

@@ -1,16 +1,16 @@
 -- One step of the run, by what the instruction at pc does.
-use Rattle.std.proofs.Common.{◌≡◌, ◌≢◌, ℕ, ◌+◌, ◌%◌, List, [], ◌∷◌, refl, sym, ap, ◌∙◌, arith}
-use Rattle.std.specs.Prelude.{true, false, Bool, Option, None, Some, ◌==◌, not, ◌||◌, ◌&&◌, if◌then◌else◌}
+use Rattle.std.proofs.Common.{◌≡◌, ◌≢◌, ℕ, ◌+◌, ◌%◌, List, [], ◌∷◌, refl, ap, ◌∙◌, arith}
+use Rattle.std.specs.Prelude.{true, false, Bool, ◌==◌, not, ◌||◌, ◌&&◌, if◌then◌else◌}
 use Rattle.std.proofs.lemmas.Bool.Decides.{nat_tests}
 use Rattle.guest_model.specs.Areas.{is_range_permitted}
 use Rattle.guest_model.specs.Bytes.{bytes_at}
 use Rattle.guest_model.specs.Machine.{Machine, instruction_at}
 use Rattle.guest_model.specs.Effect.{Effect, effect_of}
-use Rattle.guest_model.specs.Call.{World, Sent, Called, Went, Exits, Untabled, call_of, call_number, argument, finished, went, call_by}
+use Rattle.guest_model.specs.Call.{World, Sent, Called, Exits, Untabled, call_of, call_number, argument, finished, went, call_by}
 use Rattle.guest_model.specs.Runs.{Stand, Goes, Over}
-use Rattle.guest_model.specs.Serial.{Place, End, step_of, sent_at, step_by, step_by_call, sent_by, sent_by_call}
+use Rattle.guest_model.specs.Serial.{Place, step_of, sent_at, step_by, step_by_call, sent_by, sent_by_call}
 use Rattle.guest_model.specs.declared.Access.TheVariants.{Read}
-use Rattle.superpin.specs.Built.{Stop, Exit, Signal, NotBuilt, stop_of, stays_inside, is_built_call, is_built_by, is_built, stand_of, built_step, built_sent_at}
+use Rattle.superpin.specs.Built.{Stop, Exit, Signal, NotBuilt, stays_inside, is_built_call, is_built_by, is_built, stand_of, built_step, built_sent_at}
 
 -- a step that is built
 pub built_step-true : (p : Place) → is_built p.machine ≡ true → built_step p ≡ stand_of (step_of p)

@@ -1,7 +1,7 @@
 -- The run as far as it is built. Until every area and every call is built, a run also stops, as not built, at a step
 -- that reaches beyond: a load or store outside the program's file, a write to another port than the standard output
 -- or of bytes outside the file, or a call that no row has.
-use Rattle.std.specs.Prelude.{ℕ, Bool, true, ◌==◌, ◌&&◌, ◌||◌, not, List, [], Option, None, Some, if◌then◌else◌, length}
+use Rattle.std.specs.Prelude.{ℕ, Bool, true, ◌==◌, ◌&&◌, ◌||◌, not, List, [], Option, None, Some, if◌then◌else◌}
 use Rattle.rv_isa.specs.Table.{Fields}
 use Rattle.rv_isa.specs.Kinds.{size_of}
 use Rattle.guest_model.specs.Areas.{is_range_permitted}

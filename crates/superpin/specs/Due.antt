@@ -13,7 +13,6 @@ use Rattle.superpin.specs.Words.{asked}
 use Rattle.superpin.specs.Report.{report_of, refusal_line}
 use Rattle.superpin.specs.declared.answer.Answer.{Answer}
 use Rattle.superpin.specs.declared.answer.Answer.TheVariants.{Ended, Refused}
-use Rattle.superpin.specs.declared.answer.Refusal.{Refusal}
 use Rattle.superpin.specs.declared.answer.Refusal.TheVariants as refusals
 
 pub record Due : Type 0 where

@@ -1,15 +1,13 @@
 -- What is answered, and what stands where then.
-use Rattle.std.specs.Prelude.{◌≡◌, ◌≢◌, ℕ, ◌+◌, ◌-◌, ◌^◌, ◌<◌, List, [], ◌++◌, length, Option, None, Some, Result, Ok, Err, ◌⊎◌, ◌↔◌}
+use Rattle.std.specs.Prelude.{◌≡◌, ℕ, ◌-◌, ◌^◌, ◌<◌, List, [], ◌++◌, Option, Some, Result, Ok, Err, ◌⊎◌, ◌↔◌}
 use Rattle.sp_host.specs.Told.{Told, appended, sent as sent_to, PartSent}
 use Rattle.sp_host.specs.Faults.{File, To, Faults, Faulted}
 use Rattle.sp_host.specs.declared.host.Port.TheVariants.{Out, Report}
 use Rattle.guest_model.specs.Call.{World}
-use Rattle.guest_model.specs.Runs.{Goes, Over}
 use Rattle.guest_model.specs.Serial.{Place}
-use Rattle.superpin.specs.Built.{Stop, Exit, Signal, NotBuilt, run, sent}
-use Rattle.superpin.specs.Run.{at, PartDone, StepBefore}
+use Rattle.superpin.specs.Run.{PartDone, StepBefore}
 use Rattle.superpin.specs.Report.{refusal_line}
-use Rattle.superpin.specs.Due.{Due, due_run, due_start, delivered}
+use Rattle.superpin.specs.Due.{Due, delivered}
 use Rattle.superpin.specs.declared.answer.Answer.{Answer}
 use Rattle.superpin.specs.declared.answer.Answer.TheVariants.{Ended, Refused}
 use Rattle.superpin.specs.declared.answer.Refusal.{Refusal}

@@ -1,11 +1,11 @@
 -- What a run does to what a host tells.
-use Rattle.std.specs.Prelude.{◌≡◌, ℕ, ◌+◌, ◌<◌, List, [], ◌∷◌, ◌++◌, length, Option, None, Some, Result, Ok, Err, true, false}
+use Rattle.std.specs.Prelude.{◌≡◌, ℕ, ◌<◌, List, [], ◌∷◌, ◌++◌, length, Option, None, Some, Result, Ok, Err, true, false}
 use Rattle.sp_host.specs.Told.{Told, appended, PartSent}
 use Rattle.sp_host.specs.Faults.{Source, To}
 use Rattle.sp_host.specs.declared.host.Port.TheVariants.{Out}
 use Rattle.guest_model.specs.Machine.{Machine, instruction_at}
 use Rattle.guest_model.specs.Call.{World, Sent}
-use Rattle.guest_model.specs.Runs.{Stand, Goes, Over, after}
+use Rattle.guest_model.specs.Runs.{Stand, Goes, Over}
 use Rattle.guest_model.specs.Serial.{Place, bytes_to}
 use Rattle.rv_machine.specs.Step.{kind_number}
 use Rattle.rv_machine.specs.declared.step.FaultKind.{FaultKind}

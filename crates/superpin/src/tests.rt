@@ -68,7 +68,7 @@ const SERIAL: [&str; 4] = ["run", "--by", "serial", "f"];
 #[test]
 fn runs_end(rt: HostRuntime) -> Result<(), Fail> {
     let alloc = rt.alloc();
-    let cases: [(&[u32], &[u8], &[u8], u8); 7] = [
+    let cases: [(&[u32], &[u8], &[u8], u8); 9] = [
         (&EXIT_7, b"", b"icount 3\nend exit 7\n", 7),
         (&HELLO, b"hello\n", b"icount 9\nend exit 0\n", 0),
         // A write of 0 bytes from an address beyond the file.
@@ -95,6 +95,19 @@ fn runs_end(rt: HostRuntime) -> Result<(), Fail> {
             b"",
             b"icount 2\nend signal 7 at 0x00010058\n",
             135,
+        ),
+        // A store into the file, which is not writable, and a jump beyond its page.
+        (
+            &[0x000102B7, 0x0002A023],
+            b"",
+            b"icount 2\nend signal 11 at 0x00010058\n",
+            139,
+        ),
+        (
+            &[0x000202B7, 0x00028067],
+            b"",
+            b"icount 2\nend signal 11 at 0x00020000\n",
+            139,
         ),
         // A word of no instruction, which is not in the trace, and an ebreak, which is.
         (
@@ -193,7 +206,7 @@ enum Failing {
 #[test]
 fn faults_are_told(rt: HostRuntime) -> Result<(), Fail> {
     let alloc = rt.alloc();
-    let cases: [(Failing, Answer, &[u8], &[u8]); 6] = [
+    let cases: [(Failing, Answer, &[u8], &[u8]); 7] = [
         (
             Failing::Nothing,
             Answer::Ended { status: 0 },
@@ -211,6 +224,12 @@ fn faults_are_told(rt: HostRuntime) -> Result<(), Fail> {
             Answer::Refused(Refusal::FileFault),
             b"",
             b"superpin: 2 file fault\n",
+        ),
+        (
+            Failing::File(130),
+            Answer::Ended { status: 0 },
+            b"hello\n",
+            b"icount 9\nend exit 0\n",
         ),
         (
             Failing::Out(3),

@@ -1,7 +1,6 @@
 use Rattle.std.proofs.Common.{◌≡◌, ℕ, Ok, Err, Result, refl, ap, sym, subst, ◌∙◌, add-zero, arith}
 use Rattle.std.specs.Prelude.{Option, true, false, is_some}
 use Rattle.std.proofs.lemmas.Result.{err_from_is_err_and}
-use Rattle.sp_host.specs.Told.{Told}
 use Rattle.rv_isa.specs.Table.{Fields}
 use Rattle.guest_model.specs.Machine.{instruction_at}
 use Rattle.superpin.specs.Built.{sent}

@@ -1,4 +1,4 @@
-use Rattle.std.proofs.Common.{◌≡◌, [], List}
+use Rattle.std.proofs.Common.{◌≡◌, []}
 use Rattle.sp_host.specs.Told.{Told}
 use Rattle.guest_model.specs.Call.{World}
 use Rattle.superpin.specs.Run.{at}

@@ -1,4 +1,4 @@
-use Rattle.std.proofs.Common.{refl, sym, ap, ◌∙◌, ◌%◌, ℕ}
+use Rattle.std.proofs.Common.{sym, ap, ◌∙◌, ◌%◌, ℕ}
 use Rattle.rv_machine.specs.declared.step.End.TheVariants as ends
 use Rattle.superpin.specs.Built.{Exit}
 use Rattle.superpin.proofs.Gives.{exit_gives, untabled_gives}

@@ -1,4 +1,4 @@
-use Rattle.std.proofs.Common.{sym, subst, ◌∙◌}
+use Rattle.std.proofs.Common.{sym, subst}
 use Rattle.guest_model.specs.Machine.{Machine}
 use Rattle.superpin.specs.Run.{FaultGives, StepGives}
 use Rattle.superpin.proofs.Gives.{next_gives, fault_gives}

@@ -1,4 +1,4 @@
-use Rattle.std.proofs.Common.{◌≡◌, List, ℕ, ap, sym, subst, ◌∙◌}
+use Rattle.std.proofs.Common.{List, ℕ, ap, subst, ◌∙◌}
 use Rattle.std.specs.Prelude.{string_bytes, Err}
 use Rattle.superpin.specs.Words.{texts}
 use Rattle.superpin.specs.Top.{ReadGives}

@@ -1,4 +1,4 @@
-use Rattle.std.proofs.Common.{◌≡◌, refl, ap, sym, subst, ◌∙◌}
+use Rattle.std.proofs.Common.{sym, subst, ◌∙◌}
 use Rattle.std.specs.Prelude.{Some}
 use Rattle.superpin.specs.declared.top.TheConstants.{BUDGET}
 use Rattle.superpin.specs.declared.answer.Refusal.{Refusal}

@@ -1,11 +1,10 @@
-use Rattle.std.proofs.Common.{◌≡◌, ℕ, List, ap, sym, ◌∙◌}
+use Rattle.std.proofs.Common.{ap}
 use Rattle.sp_host.specs.Told.{Told}
-use Rattle.sp_host.specs.Faults.{Faults}
 use Rattle.superpin.specs.declared.top.TheConstants.{BUDGET}
-use Rattle.superpin.specs.declared.answer.Answer.TheVariants.{Ended, Refused}
+use Rattle.superpin.specs.declared.answer.Answer.TheVariants.{Refused}
 use Rattle.superpin.specs.Words.{texts}
 use Rattle.superpin.specs.Due.{start_of, due_of}
-use Rattle.superpin.specs.Outcome.{IsRefused, Outcome}
+use Rattle.superpin.specs.Outcome.{IsRefused}
 use Rattle.superpin.proofs.Headline.{headline_of, causes_of, front_of, quiet_of, others_kept, only_out}
 use Rattle.superpin.proofs.top.superpin.Goals as goal
 
