@@ -48,9 +48,9 @@ pub struct Image {
     pub phdr: u32,
     /// The number of entries of the program header table.
     pub phnum: u16,
-    /// The segments, in order of address. Each has 1 byte or more, from 0x1000 to below 0x4000_0000.
+    /// The segments. Each has 1 byte or more, from 0x1000 to below 0x4000_0000.
     pub segments: Vec<Segment>,
-    /// The functions, in order of address.
+    /// The functions of the symbol table.
     pub functions: Vec<Function>,
 }
 

@@ -5,7 +5,7 @@ use Rattle.guest_model.specs.declared.Area.{Area}
 use Rattle.guest_model.specs.declared.Access.{Access}
 use Rattle.guest_model.specs.declared.Access.TheVariants.{Read, Write, Execute}
 
--- an address is a number modulo 2^32 (RISC-V unprivileged manual, 1.4)
+-- an address is a number modulo 2^32 (RISC-V unprivileged manual, "Memory")
 abbrev pub wrap : ℕ → ℕ
 wrap a = a % 2 ^ 32
 

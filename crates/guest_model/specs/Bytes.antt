@@ -1,4 +1,4 @@
--- A flat map from addresses to bytes. Numbers are little-endian (RISC-V unprivileged manual, 1.4).
+-- A flat map from addresses to bytes. Numbers are little-endian (RISC-V unprivileged manual, "Load and Store Instructions").
 use Rattle.std.specs.Prelude.{ℕ, zero, suc, ◌+◌, ◌*◌, ◌/◌, ◌%◌, List, [], ◌∷◌, map}
 use Rattle.std.specs.List.{range_with_len}
 use Rattle.std.specs.Option.{unwrap_or}

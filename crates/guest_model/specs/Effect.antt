@@ -1,4 +1,4 @@
--- What one instruction does to a machine (RISC-V unprivileged manual, chapters 2 and 13: RV32I and M).
+-- What one instruction does to a machine (RISC-V unprivileged manual, "RV32I Base Integer Instruction Set" and the M extension).
 use Rattle.std.specs.Prelude.{ℕ, ◌+◌, ◌*◌, ◌/◌, ◌%◌, ◌==◌, Option, Some, None, if◌then◌else◌}
 use Rattle.rv_isa.specs.Word.{unsigned_of}
 use Rattle.rv_isa.specs.Table.{Fields}
@@ -74,7 +74,7 @@ writes_some m i (Some value) = writes m i value
 abbrev pub computes : Machine → Fields → ℕ → Effect
 computes m i operand = writes_some m i (alu_of i.op (rs1_value m i) operand)
 
--- pc gets the target, which must be a multiple of 4 (2.2), and rd the address behind the jump
+-- pc gets the target, which must be a multiple of 4 ("Base Instruction Formats"), and rd the address behind the jump
 abbrev pub jumps : Machine → Fields → ℕ → Effect
 jumps m i to = if to % 4 == 0 then Next (written m i (following m) to) else Fault misaligned
 

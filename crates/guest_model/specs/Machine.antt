@@ -1,4 +1,4 @@
--- A guest's machine: one hart of RV32IM with its memory (RISC-V unprivileged manual, 2.1).
+-- A guest's machine: one hart of RV32IM with its memory (RISC-V unprivileged manual, "Programmers' Model for Base Integer ISA").
 use Rattle.std.specs.Prelude.{ℕ, ◌+◌, ◌==◌, Bool, List, Option, slice_index, slice_set, if◌then◌else◌, option_and_then, refl}
 use Rattle.std.specs.Coded.{Coded, coded_ℕ, coded_bool, coded_list, coded×, code_by}
 use Rattle.rv_isa.specs.Table.{Fields}

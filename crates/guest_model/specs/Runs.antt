@@ -1,5 +1,5 @@
 -- Runs of a step function, whatever its states and ends are.
-use Rattle.std.specs.Prelude.{◌≡◌, ℕ, zero, suc, List, [], ◌++◌}
+use Rattle.std.specs.Prelude.{ℕ, zero, suc, List, [], ◌++◌}
 
 -- where a run stands: at a state from which it goes on, or ended at its last state
 pub data Stand (S E : Type 0) : Type 0 where
@@ -25,11 +25,3 @@ here f (Over s e) = []
 unfoldable pub along : {S E A : Type 0} → (S → Stand S E) → (S → List A) → ℕ → Stand S E → List A
 along step f zero x = []
 along step f (suc n) x = along step f n x ++ here f (after step n x)
-
--- the state at which a run stands, or its last one
-abbrev pub state_of : {S E : Type 0} → Stand S E → S
-state_of (Goes s) = s
-state_of (Over s e) = s
-
-abbrev pub IsOpen : {S E : Type 0} → Stand S E → Type 0
-IsOpen {S} {E} x = (s : S) × (x ≡ Goes s)

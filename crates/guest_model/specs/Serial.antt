@@ -50,6 +50,10 @@ sent_by p (Fault kind) = []
 unfoldable pub sent_at : Place → List Sent
 sent_at p = sent_by p (effect_of p.machine)
 
+-- what the first n steps of the run from p send
+abbrev pub sent_of : ℕ → Place → List Sent
+sent_of n p = along step_of sent_at n (Goes p)
+
 -- the bytes that went to one port
 abbrev pub to_port : ℕ → Sent → List ℕ
 to_port port s = if s.port == port then s.bytes else []

@@ -10,7 +10,8 @@ strings_size args = sum_by (λ a. length a + 1) args
 
 -- The first stack pointer, a multiple of 16 (RISC-V ELF psABI, "Integer calling convention"). Above it the stack has
 -- room for argc, the addresses of the strings with a zero behind them, the zero that ends an empty environment, seven
--- pairs of the auxiliary vector, the strings, and 16 bytes from 0x7FFFEFF0 on (Linux, "process stack").
+-- pairs of the auxiliary vector, the strings, and 16 bytes from 0x7FFFEFF0 on (System V ABI, "Process Initialization";
+-- Linux, getauxval(3)).
 abbrev pub stack_pointer_of : List (List ℕ) → ℕ
 stack_pointer_of args = (0x7FFFEFF0 - strings_size args - 4 * (length args + 17)) / 16 * 16
 

@@ -67,7 +67,7 @@ fn first_bytes(alloc: Global, segments: &[Segment]) -> Result<Vec<u8>, AllocErro
     }
 }
 
-// The first stack pointer, below which the strings and the addresses of one argument have room.
+// The first stack pointer, above which the string and the addresses of one argument have room.
 fn stack_pointer(args: &[String]) -> u32
     requires one { length args.now ≡ 1 }
     requires sizes { All (λ a. (1 ≤ string_len a) × (string_len a ≤ 255)) args.now }

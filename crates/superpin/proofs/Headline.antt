@@ -28,20 +28,20 @@ record IsKept (before now : Faults) : Type 0 where
   out : now.out ≡ before.out
   report : before.report ≤ now.report
 
-kept : (before now : Faults) (p : Type 0) → (p × (now ≡ before)) ⊎ Faulted (To Report) before now → IsKept before now
-kept before now p (inl same) = record { file = ap (λ (f : Faults). f.file) same.1; out = ap (λ (f : Faults). f.out) same.1; report = omega (arith, ap (λ (f : Faults). f.report) same.1) }
-kept before now p (inr fault) = record { file = ap (λ (f : Faults). f.file) fault.others; out = ap (λ (f : Faults). f.out) fault.others; report = omega (arith, fault.rises.never_falls, ap (λ (f : Faults). f.report) fault.others) }
+kept : (before now : Faults) (p q : Type 0) → (p × (now ≡ before)) ⊎ (q × Faulted (To Report) before now) → IsKept before now
+kept before now p q (inl same) = record { file = ap (λ (f : Faults). f.file) same.1; out = ap (λ (f : Faults). f.out) same.1; report = omega (arith, ap (λ (f : Faults). f.report) same.1) }
+kept before now p q (inr fault) = record { file = ap (λ (f : Faults). f.file) fault.1.others; out = ap (λ (f : Faults). f.out) fault.1.others; report = omega (arith, fault.1.rises.never_falls, ap (λ (f : Faults). f.report) fault.1.others) }
 
 kept_by : (refusal : Refusal) (old new : Told) (before now : Faults) → WritesLine refusal old new before now → IsKept before now
-kept_by refusal old new before now writes = kept before now (writes.rest ≡ []) writes.cause
+kept_by refusal old new before now writes = kept before now (writes.rest ≡ []) (writes.rest ≢ []) writes.cause
 
 -- where the count of Report did not rise, the line is whole
 whole : (refusal : Refusal) (old new : Told) (before now : Faults) (writes : WritesLine refusal old new before now) → before.report < 2 ^ 64 - 1 → now.report ≡ before.report → writes.line ≡ refusal_line refusal
 whole refusal old new before now writes below same = ends writes.cause
   where
-    ends : ((writes.rest ≡ []) × (now ≡ before)) ⊎ Faulted (To Report) before now → writes.line ≡ refusal_line refusal
+    ends : ((writes.rest ≡ []) × (now ≡ before)) ⊎ ((writes.rest ≢ []) × Faulted (To Report) before now) → writes.line ≡ refusal_line refusal
     ends (inl p) = sym (append-nil writes.line) ∙ (ap (λ (xs : List ℕ). writes.line ++ xs) (sym p.0) ∙ writes.is_front)
-    ends (inr fault) = absurd (omega (arith, fault.rises.rose below, ap (λ (f : Faults). f.report) fault.others))
+    ends (inr fault) = absurd (omega (arith, fault.1.rises.rose below, ap (λ (f : Faults). f.report) fault.1.others))
 
 -- a refusal that is due, with its line
 due_delivered : (t : Told) (d : Due) (refusal : Refusal) (before middle now : Faults) (mid new : Told) → IsDue t d (Refused refusal) mid → d.report ≡ refusal_line refusal → middle ≡ before
@@ -122,17 +122,21 @@ causes_of t budget start d before now (Refused refusals.ReportFault) new o can f
 all_sent : (old new : Option (List ℕ)) (d : Due) → new ≡ appended old d.out → AddsFront old d.out new
 all_sent old new d e = record { written = d.out; rest = []; is_front = append-nil d.out; told_is = e }
 
+nothing_sent : (t mid : Told) (d : Due) → mid ≡ t → AddsFront t.out d.out mid.out
+nothing_sent t mid d same = record { written = []; rest = d.out; is_front = refl; told_is = ap (λ (q : Told). q.out) same ∙ sym (appended-nil t.out) }
+
 part_sent : (t mid : Told) (budget : ℕ) (start : Option Place) (w : World) → (p : Place) × (start ≡ Some p) × StepBefore budget p (λ q before. PartDone t q before mid) → AddsFront t.out (due_start budget start w).out mid.out
 part_sent t mid budget start w stopped =
     subst (λ (o : Option Place). AddsFront t.out (due_start budget o w).out mid.out) (sym stopped.1) (part_front t mid budget stopped.0 stopped.2)
 
 front_before : (t : Told) (budget : ℕ) (start : Option Place) (w : World) (refusal : Refusal) (mid : Told) → Refuses t budget start (due_start budget start w) refusal mid → AddsFront t.out (due_start budget start w).out mid.out
-front_before t budget start w refusals.FileFault mid refuses = record { written = []; rest = (due_start budget start w).out; is_front = refl; told_is = ap (λ (q : Told). q.out) refuses ∙ sym (appended-nil t.out) }
+front_before t budget start w refusals.FileFault mid refuses = nothing_sent t mid (due_start budget start w) refuses
 front_before t budget start w (refusals.BudgetSpent n) mid refuses = all_sent t.out mid.out (due_start budget start w) (ap (λ (q : Told). q.out) refuses.told_is)
 front_before t budget start w refusals.NotBuilt mid refuses = all_sent t.out mid.out (due_start budget start w) (ap (λ (q : Told). q.out) refuses.told_is)
 front_before t budget start w (refusals.OutputFault port) mid refuses = part_sent t mid budget start w refuses.1
 front_before t budget start w refusals.ReportFault mid refuses = all_sent t.out mid.out (due_start budget start w) (ap (λ (q : Told). q.out) refuses.2.sends)
-front_before t budget start w refusals.NoMemory mid refuses = record { written = refuses.written; rest = refuses.rest; is_front = refuses.is_front; told_is = ap (λ (q : Told). q.out) refuses.told_is }
+front_before t budget start w refusals.NoMemory mid (inl same) = nothing_sent t mid (due_start budget start w) same
+front_before t budget start w refusals.NoMemory mid (inr all) = all_sent t.out mid.out (due_start budget start w) (ap (λ (q : Told). q.out) all.2)
 
 pub front_of : (t : Told) (budget : ℕ) (start : Option Place) (w : World) (before now : Faults) (answer : Answer) (new : Told)
     → Outcome t budget start (due_start budget start w) before answer new now → AddsFront t.out (due_start budget start w).out new.out
@@ -147,7 +151,8 @@ quiet_before t budget start d (refusals.BudgetSpent n) mid refuses = ap (λ (q :
 quiet_before t budget start d refusals.NotBuilt mid refuses = ap (λ (q : Told). q.err) refuses.told_is
 quiet_before t budget start d (refusals.OutputFault port) mid refuses = ap (λ (q : Told). q.err) refuses.1.2.holds.part.sends
 quiet_before t budget start d refusals.ReportFault mid refuses = ap (λ (q : Told). q.err) refuses.2.sends
-quiet_before t budget start d refusals.NoMemory mid refuses = ap (λ (q : Told). q.err) refuses.told_is
+quiet_before t budget start d refusals.NoMemory mid (inl same) = ap (λ (q : Told). q.err) same
+quiet_before t budget start d refusals.NoMemory mid (inr all) = ap (λ (q : Told). q.err) all.2
 
 pub quiet_of : (t : Told) (budget : ℕ) (start : Option Place) (d : Due) (before now : Faults) (answer : Answer) (new : Told) → Outcome t budget start d before answer new now → new.err ≡ t.err
 quiet_of t budget start d before now (Ended status) new o = ap (λ (q : Told). q.err) o.1
@@ -168,14 +173,14 @@ others_by refusals.ReportFault before middle caused = (ap (λ (f : Faults). f.in
 others_by refusals.NoMemory before middle caused = same_others before middle caused
 others_by refusals.NotBuilt before middle caused = same_others before middle caused
 
-others_of_line : (middle now : Faults) (p : Type 0) → (p × (now ≡ middle)) ⊎ Faulted (To Report) middle now → SameOthers middle now
-others_of_line middle now p (inl same) = same_others middle now same.1
-others_of_line middle now p (inr fault) = (ap (λ (f : Faults). f.input) fault.others, ap (λ (f : Faults). f.err) fault.others)
+others_of_line : (middle now : Faults) (p q : Type 0) → (p × (now ≡ middle)) ⊎ (q × Faulted (To Report) middle now) → SameOthers middle now
+others_of_line middle now p q (inl same) = same_others middle now same.1
+others_of_line middle now p q (inr fault) = (ap (λ (f : Faults). f.input) fault.1.others, ap (λ (f : Faults). f.err) fault.1.others)
 
 pub others_kept : (refusal : Refusal) (mid new : Told) (before middle now : Faults) → CausedBy refusal before middle → WritesLine refusal mid new middle now → SameOthers before now
 others_kept refusal mid new before middle now caused writes =
     let first = others_by refusal before middle caused in
-    let second = others_of_line middle now (writes.rest ≡ []) writes.cause in
+    let second = others_of_line middle now (writes.rest ≡ []) (writes.rest ≢ []) writes.cause in
     (second.0 ∙ first.0, second.1 ∙ first.1)
 
 -- only the standard output is a port of an output fault

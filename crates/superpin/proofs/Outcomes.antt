@@ -15,7 +15,7 @@ use Rattle.superpin.specs.Built.{Stop, Exit, Signal, NotBuilt, run, sent, trace}
 use Rattle.superpin.specs.Run.{at, stop_by, RunGives}
 use Rattle.superpin.specs.Report.{report_of}
 use Rattle.superpin.specs.Due.{Due, due_run, due_stand, due_start, delivered}
-use Rattle.superpin.specs.Outcome.{IsFront, IsDue, Refuses, AttemptGives}
+use Rattle.superpin.specs.Outcome.{IsDue, Refuses, AttemptGives}
 use Rattle.superpin.specs.declared.answer.Answer.TheVariants.{Ended, Refused}
 use Rattle.superpin.specs.declared.answer.Refusal.TheVariants as refusals
 use Rattle.superpin.specs.declared.run.Finish.{Finish}
@@ -92,8 +92,8 @@ finished_by t new budget count p last (ends.Signal kind pc) stands counted told 
 pub finishes : (t new : Told) (budget : ℕ) (p : Place) (finish : Finish) → RunGives t budget p (Ok finish) new → IsFinished t (due_run budget p) finish new
 finishes t new budget p finish gives = finished_by t new budget finish.count p gives.0 finish.end gives.1 gives.2 gives.3
 
-pub no_room : (t : Told) (d : Due) (finish : Finish) (mid : Told) → IsFinished t d finish mid → IsFront t d mid
-no_room t d finish mid done = record { written = d.out; rest = []; left = d.left; is_front = append-nil d.out; told_is = done.told_is ∙ delivered-nil t d }
+pub no_room : (t : Told) (budget : ℕ) (start : Option Place) (d : Due) (finish : Finish) (mid : Told) → IsFinished t d finish mid → Refuses t budget start d refusals.NoMemory mid
+no_room t budget start d finish mid done = inr (status_of finish.end, done.answer_is, done.told_is)
 
 pub reported : (t : Told) (budget : ℕ) (start : Option Place) (d : Due) (finish : Finish) (mid new : Told) (text : List ℕ) (status : ℕ) → IsFinished t d finish mid → text ≡ report_of finish.count (stop_by finish.end)
     → new ≡ sent_to Report text mid → status ≡ status_of finish.end → AttemptGives t budget start d (Ok status) new
@@ -110,10 +110,7 @@ not_reported t budget start d finish mid new text done is wrote = (
   subst (λ (q : Told). PartSent Report d.report q new) done.told_is (subst (λ (xs : List ℕ). PartSent Report xs mid new) (is ∙ sym done.report_is) wrote),
 )
 
--- before the run nothing was written
-pub nothing_written : (t : Told) (d : Due) (w : World) (new : Told) → t.input ≡ Some w.input → t.moments ≡ Some w.moments → new ≡ t → IsFront t d new
-nothing_written t d w new input moments same = record { written = []; rest = d.out; left = w; is_front = refl; told_is = same ∙ at_begin t w input moments }
-
+-- where there is no run nothing was written
 pub nothing_asked : (t : Told) (budget : ℕ) (w : World) (new : Told) → t.input ≡ Some w.input → t.moments ≡ Some w.moments → new ≡ t → IsDue t (due_start budget None w) (Refused refusals.NotBuilt) new
 nothing_asked t budget w new input moments same = record {
   answer_is = refl;

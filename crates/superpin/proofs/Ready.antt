@@ -18,7 +18,7 @@ use Rattle.superpin.specs.Outcome.{Refuses, AttemptGives}
 use Rattle.superpin.specs.Top.{refusal_of_read, ReadGives, StartGives, ReadyGives}
 use Rattle.superpin.specs.declared.answer.Refusal.{Refusal}
 use Rattle.superpin.specs.declared.answer.Refusal.TheVariants as refusals
-use Rattle.superpin.proofs.Outcomes.{nothing_written, nothing_asked}
+use Rattle.superpin.proofs.Outcomes.{nothing_asked}
 
 -- a file of more than 4,180 bytes is no image
 pub image_of-long : (file : List ℕ) → 4180 < length file → image_of file ≡ None
@@ -70,7 +70,7 @@ pub unready : (t : Told) (budget : ℕ) (words : List (List ℕ)) (files : List 
 unready t budget words files w refusals.NotBuilt new gives input moments same =
     subst (λ (o : Option Place). Refuses t budget o (due_start budget o w) refusals.NotBuilt new) (sym (gives w)) (nothing_asked t budget w new input moments same)
 unready t budget words files w refusals.FileFault new gives input moments same = same
-unready t budget words files w refusals.NoMemory new gives input moments same = nothing_written t (due_start budget (start_of words files w) w) w new input moments same
+unready t budget words files w refusals.NoMemory new gives input moments same = inl same
 unready t budget words files w (refusals.BudgetSpent n) new gives input moments same = absurd gives
 unready t budget words files w (refusals.OutputFault port) new gives input moments same = absurd gives
 unready t budget words files w refusals.ReportFault new gives input moments same = absurd gives

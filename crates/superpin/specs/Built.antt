@@ -1,6 +1,6 @@
 -- The run as far as it is built. Until every area and every call is built, a run also stops, as not built, at a step
--- that reaches beyond: a load or store outside the program's file, a write to another port than the standard output
--- or of bytes outside the file, or a call that no row has.
+-- that reaches beyond: a load or store outside the one area, which is the program's file up to the end of its page, a
+-- write to another port than the standard output or of bytes outside the area, or a call that no row has.
 use Rattle.std.specs.Prelude.{ℕ, Bool, true, ◌==◌, ◌&&◌, ◌||◌, not, List, [], Option, None, Some, if◌then◌else◌}
 use Rattle.rv_isa.specs.Table.{Fields}
 use Rattle.rv_isa.specs.Kinds.{size_of}
@@ -23,12 +23,12 @@ stop_of (End.Exit status) = Exit status
 stop_of (End.Signal kind pc) = Signal kind pc
 stop_of (End.Unsupported number pc) = NotBuilt
 
--- whether the bytes that the instruction loads or stores lie in the file; other instructions reach none
+-- whether the bytes that the instruction loads or stores lie in the area; other instructions reach none
 abbrev pub stays_inside : Machine → Option Fields → Bool
 stays_inside m None = true
 stays_inside m (Some i) = is_range_permitted Read m.space.areas (address m i) (size_of i.op)
 
--- whether a call, if it is write, goes to the standard output with bytes of the file
+-- whether a call, if it is write, goes to the standard output with bytes of the area
 abbrev pub is_built_call : Machine → Bool
 is_built_call m = not (call_number m == 64) || (argument m 0 == 1 && is_range_permitted Read m.space.areas (argument m 1) (argument m 2))
 

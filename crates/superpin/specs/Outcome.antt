@@ -27,14 +27,6 @@ CausedBy refusals.ReportFault before now = Faulted (To Report) before now
 CausedBy refusals.NoMemory before now = now ≡ before
 CausedBy refusals.NotBuilt before now = now ≡ before
 
--- the bytes that stand on the standard output are a beginning of the due ones, and nothing else was written
-pub record IsFront (t : Told) (d : Due) (new : Told) : Type 0 where
-  pub written : List ℕ
-  pub rest : List ℕ
-  pub left : World
-  pub is_front : written ++ rest ≡ d.out
-  pub told_is : new ≡ record t { input = Some left.input; moments = Some left.moments; out = appended t.out written }
-
 -- the due answer is this one, and its bytes but for the report were written
 pub record IsDue (t : Told) (d : Due) (answer : Answer) (new : Told) : Type 0 where
   pub answer_is : d.answer ≡ answer
@@ -43,7 +35,8 @@ pub record IsDue (t : Told) (d : Due) (answer : Answer) (new : Told) : Type 0 wh
 -- The places at which the outside stands when a run is refused, before the line of the refusal is written: nothing was
 -- written after a file fault; the bytes of the steps that ran, after the budget is spent or at a step that is not built;
 -- the bytes of the steps before a write and a proper beginning of that write's, after an output fault; the whole
--- run's bytes and a proper beginning of the report, after a report fault.
+-- run's bytes and a proper beginning of the report, after a report fault. Memory is wanting before the run, where
+-- nothing was written, or after a run that ended, where its bytes were.
 abbrev pub Refuses : Told → ℕ → Option Place → Due → Refusal → Told → Type 0
 Refuses t budget start d refusals.FileFault new = new ≡ t
 Refuses t budget start d (refusals.BudgetSpent n) new = IsDue t d (Refused (refusals.BudgetSpent n)) new
@@ -51,7 +44,7 @@ Refuses t budget start d refusals.NotBuilt new = IsDue t d (Refused refusals.Not
 Refuses t budget start d (refusals.OutputFault port) new =
     (port ≡ Out) × ((p : Place) × (start ≡ Some p) × StepBefore budget p (λ q before. PartDone t q before new))
 Refuses t budget start d refusals.ReportFault new = (status : ℕ) × (d.answer ≡ Ended status) × PartSent Report d.report (delivered t d []) new
-Refuses t budget start d refusals.NoMemory new = IsFront t d new
+Refuses t budget start d refusals.NoMemory new = (new ≡ t) ⊎ ((status : ℕ) × (d.answer ≡ Ended status) × (new ≡ delivered t d []))
 
 abbrev pub AttemptGives : Told → ℕ → Option Place → Due → Result ℕ Refusal → Told → Type 0
 AttemptGives t budget start d (Ok status) new = (d.answer ≡ Ended status) × (new ≡ delivered t d d.report)
@@ -63,7 +56,7 @@ pub record WritesLine (refusal : Refusal) (old new : Told) (before now : Faults)
   pub rest : List ℕ
   pub is_front : line ++ rest ≡ refusal_line refusal
   pub told_is : new ≡ sent_to Report line old
-  pub cause : ((rest ≡ []) × (now ≡ before)) ⊎ Faulted (To Report) before now
+  pub cause : ((rest ≡ []) × (now ≡ before)) ⊎ ((rest ≢ []) × Faulted (To Report) before now)
 
 -- Where the outside stood before the line of a refusal, and after it.
 pub record IsRefused (t : Told) (budget : ℕ) (start : Option Place) (d : Due) (refusal : Refusal) (before : Faults) (new : Told) (now : Faults) : Type 0 where

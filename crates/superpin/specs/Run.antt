@@ -63,7 +63,7 @@ pub record StepBefore (budget : ℕ) (p : Place) (P : Place → List Sent → Ty
   pub stands : run steps p ≡ Goes place
   pub holds : P place (sent steps p)
 
--- what a fault of the instruction at pc answers: it ends the run where the instruction stays inside the file
+-- what a fault of the instruction at pc answers: it ends the run where the instruction stays inside the area
 abbrev pub FaultGives : Machine → FaultKind → Result Turn RunFault → Type 0
 FaultGives m kind (Ok turns.Next) = ⊥
 FaultGives m kind (Ok (turns.Over end)) = (stays_inside m (instruction_at m) ≡ true) × (stop_by end ≡ Signal (kind_number kind) m.pc)

@@ -4,7 +4,7 @@ ghost use Rattle.superpin.specs.Answer.{exit_code_of};
 
 use sp_host::Port;
 
-/// Why nothing was reported, in the order of testing.
+/// Why nothing was reported, in the order of the refusals' numbers.
 #[derive(Clone, Copy, Debug, PartialEq, Eq)]
 pub enum Refusal {
     /// The file could not be read.
@@ -16,7 +16,7 @@ pub enum Refusal {
     /// The report could not be written.
     ReportFault,
     NoMemory,
-    /// The words, the file or a step are not built yet.
+    /// The words, the file or a step of the run are not built yet.
     NotBuilt,
 }
 

@@ -86,7 +86,7 @@ fn serve<H: Host>(host: &mut H, guest: &mut Guest) -> Result<Turn, RunFault>
     Err(RunFault::NotBuilt)
 }
 
-// Whether the instruction at pc loads or stores beyond the program's file.
+// Whether the instruction at pc loads or stores outside the guest's area.
 fn reaches_beyond(guest: &Guest) -> bool
     ensures { result ≡ not (stays_inside guest.now (instruction_at guest.now)) }
 {

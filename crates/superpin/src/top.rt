@@ -1,12 +1,12 @@
 // From the words to the answer.
-ghost use Rattle.std.specs.Prelude.{◌≡◌, ◌≢◌, ◌<◌, ◌≤◌, ◌↔◌, ◌^◌, ◌-◌, ℕ, [], length, string_bytes, Some, MatchResult};
+ghost use Rattle.std.specs.Prelude.{◌≡◌, ◌≢◌, ◌<◌, ◌≤◌, ◌↔◌, ◌^◌, ◌-◌, ℕ, [], length, string_bytes, None, Some, Err, MatchResult};
 ghost use Rattle.sp_host.specs.Told.{Told, WhereTold};
 ghost use Rattle.elf_load.specs.Form.{image_of};
 ghost use Rattle.guest_model.specs.Call.{World};
 ghost use Rattle.superpin.specs.Due.{at_start, start_of, due_run, due_of};
 ghost use Rattle.superpin.specs.Run.{at};
 ghost use Rattle.superpin.specs.Outcome.{WhereAllTold, CausedBy, AttemptGives, WritesLine, Outcome, CanRise, IsDelivered, IsCaused, AddsFront};
-ghost use Rattle.superpin.specs.Words.{texts};
+ghost use Rattle.superpin.specs.Words.{asked, texts};
 ghost use Rattle.superpin.specs.Top.{refusal_of_read, refusal_of_run, ReadGives, StartGives, ReadyGives};
 
 use crate::answer::{Answer, Refusal};
@@ -81,6 +81,7 @@ fn start(alloc: Global, file: &[u8], name: &String) -> Result<Guest, Refusal>
 
 // The guest of the run that the words ask for.
 fn ready<H: Host>(alloc: Global, words: &[String], host: &mut H) -> Result<Guest, Refusal>
+    ensures words { asked (texts words.now) ≡ None → result ≡ Err Refusal.NotBuilt }
     ensures told { H.told host.new ≡ H.told host.old }
     ensures guest { WhereTold (H.told host.old).files (λ files. ReadyGives (texts words.now) files result) }
     ensures faults { MatchResult result (λ _. H.faults host.new ≡ H.faults host.old)
@@ -118,6 +119,7 @@ fn run_guest<H: Host>(alloc: Global, host: &mut H, guest: &mut Guest) -> Result<
 
 // The run that the words ask for, with its report.
 fn attempt<H: Host>(alloc: Global, words: &[String], host: &mut H) -> Result<u8, Refusal>
+    ensures words { asked (texts words.now) ≡ None → result ≡ Err Refusal.NotBuilt }
     ensures told { WhereAllTold (H.told host.old) (λ files w.
         AttemptGives (H.told host.old) BUDGET (start_of (texts words.now) files w) (due_of BUDGET (texts words.now) files w) result (H.told host.new)) }
     ensures faults { MatchResult result (λ _. H.faults host.new ≡ H.faults host.old)
@@ -143,7 +145,8 @@ fn refuse<H: Host>(host: &mut H, refusal: &Refusal)
 /// Runs what the words ask for: `run --by serial FILE`. The run's bytes go to the host's standard output, and its report,
 /// or the line of a refusal, to the port of reports. The pacer is not asked.
 ///
-/// The answer is the due one: the status of the run, or the refusal. `NoMemory` is answered only where memory was not found.
+/// The answer is the due one, but for the faults of the file, of the standard output and of the report, which come where
+/// their count rose, and for want of memory.
 pub fn superpin<H: Host + Send, P: Pacer + Send>(
     alloc: Global,
     words: &[String],
@@ -151,6 +154,7 @@ pub fn superpin<H: Host + Send, P: Pacer + Send>(
     pacer: &mut P,
 ) -> Answer
     // The causes that show on every host.
+    ensures words { asked (texts words.now) ≡ None → result ≡ Answer.Refused Refusal.NotBuilt }
     ensures file_fault { (H.faults host.old).file < 2 ^ 64 - 1 →
         ((result ≡ Answer.Refused Refusal.FileFault) ↔ ((H.faults host.old).file < (H.faults host.new).file)) }
     ensures output_fault { (H.faults host.old).out < 2 ^ 64 - 1 →

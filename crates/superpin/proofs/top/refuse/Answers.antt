@@ -1,6 +1,7 @@
 use Rattle.std.proofs.Common.{◌≡◌, take, drop, inr, ◌∙◌}
 use Rattle.std.proofs.lemmas.List.{take-append-drop}
 use Rattle.superpin.specs.Report.{refusal_line}
+use Rattle.superpin.proofs.Texts.{some_left}
 use Rattle.superpin.proofs.top.refuse.Goals as goal
 
 pub returns-in-Err : goal.returns-in-Err
@@ -13,5 +14,5 @@ returns-in-Err g c =
       rest = drop part.count line;
       is_front = take-append-drop part.count line ∙ whole;
       told_is = part.sends;
-      cause = inr c.in-Err.ensures.faults;
+      cause = inr (some_left part.count line part.proper, c.in-Err.ensures.faults);
     }

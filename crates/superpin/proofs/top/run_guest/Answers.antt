@@ -17,7 +17,7 @@ pub returns-in_default-clause-told : goal.returns-in_default-clause-told
 returns-in_default-clause-told g c t w is =
     let p = at_start c.args.guest.now w in
     let mid = g.H.Host.told c.execute.new.host in
-    no_room t (due_run BUDGET p) c.in-Ok.finish mid (finishes t mid BUDGET p c.in-Ok.finish (c.in-Ok.ensures.told t w is))
+    no_room t BUDGET (Some p) (due_run BUDGET p) c.in-Ok.finish mid (finishes t mid BUDGET p c.in-Ok.finish (c.in-Ok.ensures.told t w is))
 
 pub returns-in-Ok-write_whole-clause-told : goal.returns-in-Ok-write_whole-clause-told
 returns-in-Ok-write_whole-clause-told g c t w is =
