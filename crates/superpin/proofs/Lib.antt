@@ -6,3 +6,4 @@ pub mod Outcomes
 pub mod Fronts
 pub mod Headline
 pub mod Ready
+pub mod Same

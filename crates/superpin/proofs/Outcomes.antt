@@ -1,7 +1,6 @@
 -- From what the parts answer to what is due.
-use Rattle.std.proofs.Common.{◌≡◌, ℕ, List, [], length, refl, ap, sym, subst, ◌∙◌}
+use Rattle.std.proofs.Common.{inr, ◌≡◌, ℕ, List, [], length, refl, ap, sym, subst, ◌∙◌}
 use Rattle.std.specs.Prelude.{Option, None, Some, Ok, Err}
-use Rattle.std.proofs.lemmas.List.{append-nil}
 use Rattle.sp_host.specs.Told.{Told, appended, sent as sent_to, PartSent}
 use Rattle.sp_host.specs.declared.host.Port.TheVariants.{Report}
 use Rattle.sp_host.proofs.Told.{appended-nil, appended-more}

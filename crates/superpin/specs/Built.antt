@@ -1,7 +1,7 @@
 -- The run as far as it is built. Until every area and every call is built, a run also stops, as not built, at a step
 -- that reaches beyond: a load or store outside the one area, which is the program's file up to the end of its page, a
 -- write to another port than the standard output or of bytes outside the area, or a call that no row has.
-use Rattle.std.specs.Prelude.{ℕ, Bool, true, ◌==◌, ◌&&◌, ◌||◌, not, List, [], Option, None, Some, if◌then◌else◌}
+use Rattle.std.specs.Prelude.{◌≡◌, ℕ, Bool, true, ◌==◌, ◌&&◌, ◌||◌, not, List, [], Option, None, Some, if◌then◌else◌}
 use Rattle.rv_isa.specs.Table.{Fields}
 use Rattle.rv_isa.specs.Kinds.{size_of}
 use Rattle.guest_model.specs.Areas.{is_range_permitted}
@@ -64,3 +64,10 @@ built_item_at p = item_of p.machine (completed (built_step p))
 
 abbrev pub trace : ℕ → Place → List Item
 trace n p = along built_step built_item_at n (Goes p)
+
+-- the run as far as it is built, what it sent and its trace are those of the serial run, unless it met what is not built
+abbrev pub IsSame : Stand Place Stop → Stand Place End → List Sent → List Sent → List Item → List Item → Type 0
+IsSame (Goes p) stand messages sent items trace = (stand ≡ Goes p) × (messages ≡ sent) × (items ≡ trace)
+IsSame (Over p (Exit status)) stand messages sent items trace = (stand ≡ Over p (End.Exit status)) × (messages ≡ sent) × (items ≡ trace)
+IsSame (Over p (Signal kind pc)) stand messages sent items trace = (stand ≡ Over p (End.Signal kind pc)) × (messages ≡ sent) × (items ≡ trace)
+IsSame (Over p NotBuilt) stand messages sent items trace = Unit {0}

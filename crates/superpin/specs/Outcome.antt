@@ -1,5 +1,5 @@
 -- What is answered, and what stands where then.
-use Rattle.std.specs.Prelude.{◌≡◌, ℕ, ◌-◌, ◌^◌, ◌<◌, List, [], ◌++◌, Option, Some, Result, Ok, Err, ◌⊎◌, ◌↔◌}
+use Rattle.std.specs.Prelude.{◌≡◌, ◌≢◌, ℕ, ◌-◌, ◌^◌, ◌<◌, List, [], ◌++◌, Option, Some, Result, Ok, Err, ◌⊎◌, ◌↔◌}
 use Rattle.sp_host.specs.Told.{Told, appended, sent as sent_to, PartSent}
 use Rattle.sp_host.specs.Faults.{File, To, Faults, Faulted}
 use Rattle.sp_host.specs.declared.host.Port.TheVariants.{Out, Report}
