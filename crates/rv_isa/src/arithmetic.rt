@@ -1,0 +1,38 @@
+// The arithmetic of the instructions that compute.
+ghost use Rattle.std.specs.Prelude.{◌≡◌};
+ghost use Rattle.rv_isa.specs.Arithmetic.{alu_of};
+
+use crate::op::Op;
+
+/// What an instruction that computes gives, or None of any other.
+pub fn alu(op: Op, a: u32, b: u32) -> Option<u32>
+    ensures { result ≡ alu_of op a b }
+{
+    let signed_a = a.cast_signed();
+    let signed_b = b.cast_signed();
+    match op {
+        Op::Add | Op::Addi => Some(a.wrapping_add(b)),
+        Op::Sub => Some(a.wrapping_sub(b)),
+        Op::Sll | Op::Slli => Some(a << (b % 32)),
+        Op::Slt | Op::Slti => Some(u32::from(signed_a < signed_b)),
+        Op::Sltu | Op::Sltiu => Some(u32::from(a < b)),
+        Op::Xor | Op::Xori => Some(a ^ b),
+        Op::Srl | Op::Srli => Some(a >> (b % 32)),
+        Op::Sra | Op::Srai => Some((signed_a >> (b % 32)).cast_unsigned()),
+        Op::Or | Op::Ori => Some(a | b),
+        Op::And | Op::Andi => Some(a & b),
+        Op::Mul => Some(a.wrapping_mul(b)),
+        Op::Mulh => Some((((signed_a as i64 * signed_b as i64).cast_unsigned()) >> 32) as u32),
+        Op::Mulhsu => Some((((signed_a as i64 * b as i64).cast_unsigned()) >> 32) as u32),
+        Op::Mulhu => Some(((a as u64 * b as u64) >> 32) as u32),
+        Op::Div if b == 0 => Some(u32::MAX),
+        Op::Div => Some(signed_a.wrapping_div(signed_b).cast_unsigned()),
+        Op::Divu if b == 0 => Some(u32::MAX),
+        Op::Divu => Some(a / b),
+        Op::Rem if b == 0 => Some(a),
+        Op::Rem => Some(signed_a.wrapping_rem(signed_b).cast_unsigned()),
+        Op::Remu if b == 0 => Some(a),
+        Op::Remu => Some(a % b),
+        _ => None,
+    }
+}

@@ -1,0 +1,20 @@
+// Laws of the table.
+ghost use Rattle.std.specs.Prelude.{◌≡◌, ◌≢◌, ◌↔◌, ℕ, Some};
+ghost use Rattle.rv_isa.specs.Table.{Fields, IsInstr, Decodes};
+ghost use Rattle.rv_isa.specs.Decoded.{decoded};
+ghost use Rattle.rv_isa.specs.declared.op.Op.{Op};
+
+/// A word has at most one instruction, which is what `decoded` gives.
+pub fn one_instruction()
+    ensures { (word : ℕ) (i : Fields) → (decoded word ≡ Some i) ↔ Decodes word i }
+{}
+
+/// An instruction other than fence has at most one word.
+pub fn one_word()
+    ensures { (word other : ℕ) (i : Fields) → i.op ≢ Op.Fence → Decodes word i → Decodes other i → word ≡ other }
+{}
+
+/// What a word decodes to is an instruction, with its fields in the range of its form.
+pub fn in_form()
+    ensures { (word : ℕ) (i : Fields) → Decodes word i → IsInstr i }
+{}

@@ -1,0 +1,24 @@
+// The instructions of RV32IM: their words, their arithmetic and their text.
+#![tactic(auto)]
+
+pub mod arithmetic;
+pub mod decoder;
+pub mod encoder;
+pub mod instr;
+pub mod kinds;
+pub mod laws;
+pub mod op;
+#[cfg(test)]
+mod tests;
+pub mod text;
+pub mod view;
+mod word;
+
+pub use arithmetic::alu;
+pub use decoder::decode;
+pub use encoder::encode;
+pub use instr::Instr;
+pub use kinds::{Link, is_taken, is_terminator, link_kind, loaded, mem_size};
+pub use op::{Form, Op};
+pub use text::instr_text;
+pub use view::StepView;
