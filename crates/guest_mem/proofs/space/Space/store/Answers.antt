@@ -1,0 +1,12 @@
+use Rattle.std.proofs.Common.{◌<◌, ℕ, length, take, sym, ◌∙◌, arith}
+use Rattle.std.proofs.lemmas.List.{length-take}
+use Rattle.guest_model.specs.declared.Access.TheVariants.{Write}
+use Rattle.guest_mem.proofs.Permitted.{below_mapped}
+use Rattle.guest_mem.proofs.space.Space.store.Goals as goal
+
+pub store_bytes-requires-clause-end : goal.store_bytes-requires-clause-end
+store_bytes-requires-clause-end c = omega (arith, c.allows.ensures.below c.if-not-allows.false, length-take c.args.size c.low_bytes-bytes.result)
+
+pub store_bytes-requires-clause-mapped : goal.store_bytes-requires-clause-mapped
+store_bytes-requires-clause-mapped c = λ i lt.
+    below_mapped Write c.args.self.now.space.areas c.args.at c.args.size i (sym c.allows.ensures.permitted ∙ c.if-not-allows.false) (c.allows.ensures.below c.if-not-allows.false) (omega (arith, lt, length-take c.args.size c.low_bytes-bytes.result))

@@ -1,0 +1,9 @@
+//! A guest's memory: areas over pages of bytes.
+#![tactic(auto)]
+
+mod number;
+mod rights;
+mod space;
+
+pub use guest_model::{Access, Area};
+pub use space::{Denied, Space};
