@@ -5,3 +5,4 @@ pub mod Taken
 pub mod Written
 pub mod Stored
 pub mod Added
+pub mod Begun

@@ -1,15 +1,14 @@
 -- What a map made of areas holds, before and after bytes are put.
-use Rattle.std.proofs.Common.{◌≡◌, ℕ, zero, suc, ◌+◌, ◌-◌, ◌*◌, ◌/◌, ◌%◌, ◌^◌, ◌<◌, ◌≤◌, ◌==◌, ◌&&◌, ◌||◌, true, false, cond, Bool, List, [], ◌∷◌, refl, sym, ap, ◌∙◌, inl, inr, arith, Some, None, Option, length, get_or}
-use Rattle.std.specs.List.{range_with_len}
+use Rattle.std.proofs.Common.{◌≡◌, ℕ, zero, suc, ◌+◌, ◌-◌, ◌^◌, ◌<◌, ◌≤◌, ◌==◌, ◌||◌, true, false, cond, Bool, List, [], ◌∷◌, refl, sym, ap, ◌∙◌, inl, inr, arith, Some, None, Option, length, get_or}
 use Rattle.std.specs.Option.{unwrap_or}
-use Rattle.std.specs.Prelude.{nat_le, nat_lt, is_some}
-use Rattle.std.specs.Ordering.{nat_cmp, eq_by_cmp}
+use Rattle.std.specs.Prelude.{is_some}
+use Rattle.std.specs.Ordering.{nat_cmp}
 use Rattle.std.specs.Cmp.{nat_cmp_total}
 use Rattle.std.specs.FinMap as map
 use Rattle.std.proofs.lemmas.Bool.{cases_eq, cases_order, true≢false}
 use Rattle.std.proofs.lemmas.Bool.Decides.{nat_tests}
 use Rattle.guest_model.specs.Areas.{is_mapped, holds, wrap}
-use Rattle.guest_model.specs.Bytes.{Bytes, byte_at, bytes_at, number_of, put_bytes}
+use Rattle.guest_model.specs.Bytes.{Bytes, byte_at, put_bytes}
 use Rattle.guest_model.specs.declared.Area.{Area}
 use Rattle.guest_model.specs.Space.{Space, with_bytes, HasBytesOfAreas}
 use Rattle.guest_mem.specs.Mapped.{of_areas, space_over, with_range}
@@ -51,7 +50,6 @@ get-of_areas (x ∷ xs) f q =
 -- equal answers make equal maps
 pub same_bytes : (m n : Bytes) → ((q : ℕ) → map.get m q ≡ map.get n q) → m ≡ n
 same_bytes m n is = map.same_map nat_cmp_total map.nat_cmp-IsAntisymmetric m n is
-
 
 is_some_cond : (b : Bool) (x : ℕ) → is_some (cond b (Some x) None) ≡ b
 is_some_cond true x = refl
@@ -115,11 +113,11 @@ pub of_areas-put : (xs : List Area) (f g : ℕ → ℕ) (a : ℕ) (source : List
     → of_areas xs g ≡ put_bytes (of_areas xs f) a source
 of_areas-put xs f g a source within mapped is =
     same_bytes _ _ (λ q.
-      get-of_areas xs g q
-      ∙ ap (λ v. cond (is_mapped xs q) (Some v) None) (is q)
-      ∙ put_there (is_among a (length source) q) (is_mapped xs q) (get_or source (q - a) 0) (f q) (mapped q)
-      ∙ ap (cond (is_among a (length source) q) (Some (get_or source (q - a) 0))) (sym (get-of_areas xs f q))
-      ∙ sym (get-put_bytes (of_areas xs f) a source within q))
+    get-of_areas xs g q
+    ∙ ap (λ v. cond (is_mapped xs q) (Some v) None) (is q)
+    ∙ put_there (is_among a (length source) q) (is_mapped xs q) (get_or source (q - a) 0) (f q) (mapped q)
+    ∙ ap (cond (is_among a (length source) q) (Some (get_or source (q - a) 0))) (sym (get-of_areas xs f q))
+    ∙ sym (get-put_bytes (of_areas xs f) a source within q))
 
 -- the space whose bytes are those of a list, after some were written
 pub space_put : (s : Space) (xs : List Area) (old new : List ℕ) (brk next a : ℕ) (source : List ℕ)

@@ -1,8 +1,7 @@
 -- The bytes at an address, out of the list of all bytes.
-use Rattle.std.proofs.Common.{◌≡◌, ℕ, ◌+◌, ◌*◌, ◌/◌, ◌%◌, ◌^◌, ◌<◌, ◌≤◌, ◌⊎◌, List, [], ◌∷◌, length, get_or, false, refl, sym, ap, ◌∙◌, inl, inr, arith}
-use Rattle.std.specs.List.{range_with_len}
+use Rattle.std.proofs.Common.{◌≡◌, ℕ, ◌+◌, ◌%◌, ◌^◌, ◌<◌, ◌≤◌, ◌⊎◌, List, length, get_or, sym, ap, ◌∙◌, inl, inr, arith}
 use Rattle.std.proofs.lemmas.List.FromFn.{fill_by_all}
-use Rattle.guest_model.specs.Areas.{wrap, is_mapped}
+use Rattle.guest_model.specs.Areas.{wrap}
 use Rattle.guest_model.specs.Bytes.{Bytes, byte_at, bytes_at, number_of}
 
 not_wrapped : (a : ℕ) → a < 2 ^ 32 → wrap a ≡ a

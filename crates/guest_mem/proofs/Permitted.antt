@@ -1,11 +1,10 @@
 -- When each of some addresses is permitted.
-use Rattle.std.proofs.Common.{◌≡◌, ℕ, zero, suc, ◌+◌, ◌-◌, ◌*◌, ◌/◌, ◌<◌, ◌≤◌, ◌⊎◌, ◌&&◌, ◌||◌, ◌^◌, ◌%◌, true, false, Bool, List, [], ◌∷◌, refl, sym, ap, ◌∙◌, inl, inr, length, get_or, arith}
-use Rattle.std.specs.List.{list_any, list_all, range_with_len}
-use Rattle.std.proofs.lemmas.Bool.{cases_lt, leb-true, and_from, and_left, and_right, or_cases, or_left, or_right, and_parts, false_from_ne_true, true≢false}
+use Rattle.std.proofs.Common.{◌≡◌, ℕ, zero, suc, ◌+◌, ◌-◌, ◌*◌, ◌/◌, ◌<◌, ◌≤◌, ◌⊎◌, ◌&&◌, ◌||◌, ◌^◌, ◌%◌, true, false, Bool, List, [], ◌∷◌, refl, sym, ap, ◌∙◌, inl, inr, get_or, arith}
+use Rattle.std.specs.List.{list_all, range_with_len}
+use Rattle.std.proofs.lemmas.Bool.{cases_lt, leb-true, and_from, or_cases, or_left, or_right, and_parts, false_from_ne_true, true≢false}
 use Rattle.std.proofs.lemmas.Bool.Decides.{nat_tests}
-use Rattle.std.proofs.lemmas.Grind.{common_steps}
 use Rattle.guest_model.specs.Areas.{wrap, holds, permits, is_mapped, is_permitted, all_permitted, is_range_permitted}
-use Rattle.std.specs.Prelude.{nat_le, nat_lt}
+use Rattle.std.specs.Prelude.{nat_le}
 use Rattle.std.specs.List.{All}
 use Rattle.guest_model.specs.declared.Area.{Area}
 use Rattle.guest_model.specs.declared.Access.{Access}
@@ -140,10 +139,10 @@ PageIs access areas is page = (q : ℕ) → q / 4096 ≡ page → is ≡ is_perm
 pub first_and_last : (access : Access) (areas : List Area) (a n : ℕ) → a < 2 ^ 32 → n ≤ 4096 → PageIs access areas true (a / 4096) → PageIs access areas true (wrap (a + (n - 1)) / 4096) → all_permitted access areas a n ≡ true
 first_and_last access areas a n fits few first last =
     all_permitted_from access areas a n (λ i lt.
-      elim (either_page a n i fits lt few) [
-        | inl e ↦ sym (first (wrap (a + i)) e)
-        | inr e ↦ sym (last (wrap (a + i)) e)
-      ])
+    elim (either_page a n i fits lt few) [
+      | inl e ↦ sym (first (wrap (a + i)) e)
+      | inr e ↦ sym (last (wrap (a + i)) e)
+    ])
 
 within_page : (a n i : ℕ) → a < 2 ^ 32 → a % 4096 + n ≤ 4096 → i < n → wrap (a + i) / 4096 ≡ a / 4096
 within_page a n i fits within lt = wrapped_page (a + i) ∙ ap (λ k. k % 2 ^ 20) (first_page a i (omega arith)) ∙ page_below a fits

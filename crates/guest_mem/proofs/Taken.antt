@@ -1,9 +1,9 @@
 -- The frames that stores take: one store after another, and how many at most.
-use Rattle.std.proofs.Common.{◌≡◌, ℕ, zero, suc, ◌+◌, ◌-◌, ◌*◌, ◌/◌, ◌%◌, ◌^◌, ◌<◌, ◌≤◌, ◌==◌, ◌&&◌, ◌||◌, Bool, true, false, cond, List, [], ◌∷◌, length, get_or, map, refl, sym, ap, ◌∙◌, inl, inr, arith, add-suc, add-zero, zero-add, add_assoc, get_or-set_same, get_or-set_other}
+use Rattle.std.proofs.Common.{◌≡◌, ℕ, zero, suc, ◌+◌, ◌-◌, ◌*◌, ◌/◌, ◌%◌, ◌^◌, ◌<◌, ◌≤◌, ◌==◌, ◌&&◌, ◌||◌, Bool, true, false, cond, List, [], ◌∷◌, length, get_or, map, refl, sym, ap, ◌∙◌, inl, inr, arith, add-zero, get_or-set_same, get_or-set_other}
 use Rattle.std.specs.Prelude.{not}
 use Rattle.std.proofs.Math.ListN.{set, length-set}
-use Rattle.std.specs.List.{list_any, range_with_len, count_by, sum_by}
-use Rattle.std.proofs.lemmas.Bool.{cases_eq, cases_lt, cases_Bool, true≢false}
+use Rattle.std.specs.List.{list_any, range_with_len, count_by}
+use Rattle.std.proofs.lemmas.Bool.{cases_eq, cases_lt, cases_Bool}
 use Rattle.std.proofs.lemmas.Bool.Decides.{nat_tests}
 use Rattle.std.proofs.lemmas.List.{ext_get_or, set_past}
 use Rattle.std.proofs.lemmas.List.FromFn.{fill_by_all, get_or-map-range_with_len, length-map-range_with_len}
@@ -50,9 +50,9 @@ any_along p q s t zero is = refl
 any_along p q s t (suc n) is =
     let here : p s ≡ q t = ap p (sym (add-zero s)) ∙ is 0 ∙ ap q (add-zero t) in
     let rest = any_along p q (s + 1) (t + 1) n (λ i.
-      let e : s + 1 + i ≡ s + suc i = omega arith in
-      let f : t + suc i ≡ t + 1 + i = omega arith in
-      ap p e ∙ is (suc i) ∙ ap q f)
+    let e : s + 1 + i ≡ s + suc i = omega arith in
+    let f : t + suc i ≡ t + 1 + i = omega arith in
+    ap p e ∙ is (suc i) ∙ ap q f)
     in
     ap (λ b. b || list_any p (range_with_len (s + 1) n)) here ∙ ap (λ b. q t || b) rest
 
@@ -62,7 +62,7 @@ unfolding is_page_of
 is_page_of-split a m n page =
     any_split (λ i. wrap (a + i) / 4096 == page) 0 m n
     ∙ ap (λ t. list_any (λ i. wrap (a + i) / 4096 == page) (range_with_len 0 m) || t)
-      (any_along (λ i. wrap (a + i) / 4096 == page) (λ i. wrap (a + m + i) / 4096 == page) (0 + m) 0 n (λ i. let e : a + (0 + m + i) ≡ a + m + (0 + i) = omega arith in ap (λ k. wrap k / 4096 == page) e))
+    (any_along (λ i. wrap (a + i) / 4096 == page) (λ i. wrap (a + m + i) / 4096 == page) (0 + m) 0 n (λ i. let e : a + (0 + m + i) ≡ a + m + (0 + i) = omega arith in ap (λ k. wrap k / 4096 == page) e))
 
 pub is_page_of-none : (a page : ℕ) → is_page_of a 0 page ≡ false
 unfolding is_page_of
@@ -111,17 +111,17 @@ marked_for-split marks a m n =
     let first = length-marked_for marks a m in
     let both = length-marked_for (marked_for marks a m) (a + m) n in
     ext_get_or false _ _ (len ∙ sym (both ∙ first)) (λ page lt.
-      let inside : page < length marks = omega arith in
-      get_or-marked_for marks a (m + n) page inside
-      ∙ ap (λ t. t || get_or marks page false) (is_page_of-split a m n page)
-      ∙ turned (is_page_of a m page) (is_page_of (a + m) n page) (get_or marks page false)
-      ∙ ap (λ t. is_page_of (a + m) n page || t) (sym (get_or-marked_for marks a m page inside))
-      ∙ sym (get_or-marked_for (marked_for marks a m) (a + m) n page (omega arith)))
+    let inside : page < length marks = omega arith in
+    get_or-marked_for marks a (m + n) page inside
+    ∙ ap (λ t. t || get_or marks page false) (is_page_of-split a m n page)
+    ∙ turned (is_page_of a m page) (is_page_of (a + m) n page) (get_or marks page false)
+    ∙ ap (λ t. is_page_of (a + m) n page || t) (sym (get_or-marked_for marks a m page inside))
+    ∙ sym (get_or-marked_for (marked_for marks a m) (a + m) n page (omega arith)))
 
 pub marked_for-none : (marks : List Bool) (a : ℕ) → marked_for marks a 0 ≡ marks
 marked_for-none marks a =
     ext_get_or false _ _ (length-marked_for marks a 0) (λ page lt.
-      get_or-marked_for marks a 0 page (omega (arith, length-marked_for marks a 0)) ∙ ap (λ t. t || get_or marks page false) (is_page_of-none a page))
+    get_or-marked_for marks a 0 page (omega (arith, length-marked_for marks a 0)) ∙ ap (λ t. t || get_or marks page false) (is_page_of-none a page))
 
 set_or : (marks : List Bool) (k page : ℕ) → page < length marks → get_or (set marks k true) page false ≡ ((page == k) || get_or marks page false)
 set_or marks k page lt =
@@ -133,10 +133,10 @@ set_or marks k page lt =
 pub marked_for-one : (marks : List Bool) (a n : ℕ) → 0 < n → a % 4096 + n ≤ 4096 → marked_for marks a n ≡ set marks (wrap a / 4096) true
 marked_for-one marks a n some within =
     ext_get_or false _ _ (length-marked_for marks a n ∙ sym (length-set marks (wrap a / 4096) true)) (λ page lt.
-      let inside : page < length marks = omega (arith, length-marked_for marks a n) in
-      get_or-marked_for marks a n page inside
-      ∙ ap (λ t. t || get_or marks page false) (is_page_of-one a n page some within)
-      ∙ sym (set_or marks (wrap a / 4096) page inside))
+    let inside : page < length marks = omega (arith, length-marked_for marks a n) in
+    get_or-marked_for marks a n page inside
+    ∙ ap (λ t. t || get_or marks page false) (is_page_of-one a n page some within)
+    ∙ sym (set_or marks (wrap a / 4096) page inside))
 
 one_of : (x y : Bool) → cond {A = ℕ} (x || y) 1 0 ≡ cond y 1 0 + cond (x && not y) 1 0
 one_of true true = refl
@@ -223,3 +223,7 @@ few_frames marks a n (suc k) within =
           let rest = few_frames (marked_for marks a m) (a + m) (n - m) k (page_end a n k (omega arith) more) in
           omega (arith, ap (frames_for marks a) parts, frames_for-split marks a m (n - m), first, rest)
     ]
+
+-- n addresses lie in at most so many pages
+pub few_frames_of : (marks : List Bool) (a n : ℕ) → frames_for marks a n ≤ (n + 8190) / 4096
+few_frames_of marks a n = few_frames marks a n ((n + 8190) / 4096) (omega arith)

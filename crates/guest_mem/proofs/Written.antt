@@ -80,6 +80,8 @@ sound_written areas rights old new brk next a source sound fits within here byte
         ∙ sound.framed_where page lt
         ∙ ap (λ t. t && is_mapped areas (4096 * page)) (sym (ap (λ l. get_or l page false) touched ∙ get_or-set_other old.touched (a / 4096) page true false ne))
   ];
+  heap_bound = sound.heap_bound;
+  next_bound = sound.next_bound;
   heap_free = sound.heap_free;
   maps_free = sound.maps_free;
 }

@@ -37,6 +37,8 @@ pub record IsSound (areas : List Area) (rights : List Rights) (pages : Contents)
   pub framed_len : length pages.framed ≡ 2 ^ 20
   pub touched_len : length pages.touched ≡ 2 ^ 20
   pub framed_where : (page : ℕ) → page < 2 ^ 20 → slice_index_or pages.framed page false ≡ (slice_index_or pages.touched page false && is_mapped areas (4096 * page))
+  pub heap_bound : heap_break ≤ 0x40000000
+  pub next_bound : 0x40000000 ≤ next_map
   -- no area stands where the heap will grow, nor where maps will
   pub heap_free : (a : ℕ) → heap_break ≤ a → a < 0x40000000 → is_mapped areas a ≡ false
   pub maps_free : (a : ℕ) → next_map ≤ a → a < 0x7FE00000 → is_mapped areas a ≡ false

@@ -1,6 +1,7 @@
 //! A guest's memory: areas over pages of bytes.
 #![tactic(auto)]
 
+pub mod laws;
 mod number;
 mod rights;
 mod space;

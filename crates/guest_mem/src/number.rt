@@ -11,7 +11,10 @@ pub(crate) fn number_of(bytes: &[u8]) -> u32
         [first] => *first as u32,
         [first, second] => *first as u32 + 256 * (*second as u32),
         [first, second, third, fourth] => {
-            *first as u32 + 256 * (*second as u32) + 65536 * (*third as u32) + 16_777_216 * (*fourth as u32)
+            *first as u32
+                + 256 * (*second as u32)
+                + 65536 * (*third as u32)
+                + 16_777_216 * (*fourth as u32)
         }
         _ => unreachable!(),
     }
@@ -24,5 +27,10 @@ pub(crate) fn low_bytes(value: u32) -> [u8; 4]
     let second = value / 256;
     let third = second / 256;
     let fourth = third / 256;
-    [(value % 256) as u8, (second % 256) as u8, (third % 256) as u8, (fourth % 256) as u8]
+    [
+        (value % 256) as u8,
+        (second % 256) as u8,
+        (third % 256) as u8,
+        (fourth % 256) as u8,
+    ]
 }

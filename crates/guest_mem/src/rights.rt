@@ -11,7 +11,7 @@ use std::alloc::{AllocError, Global};
 
 /// What may be done in a page.
 #[derive(Clone, Copy)]
-pub struct Rights {
+pub(crate) struct Rights {
     pub(crate) read: bool,
     pub(crate) write: bool,
     pub(crate) execute: bool,

@@ -329,7 +329,12 @@ impl Space {
         self.pages.place(at, bytes)?;
         let place = place_of(&self.areas, &area);
         self.areas.insert(place, area);
-        fill(&mut self.rights, area.start / 4096, area.end / 4096, Rights::of(&area));
+        fill(
+            &mut self.rights,
+            area.start / 4096,
+            area.end / 4096,
+            Rights::of(&area),
+        );
         Ok(())
     }
 }

@@ -1,9 +1,10 @@
 -- How many pages are marked.
 use Rattle.std.proofs.Common.{◌≡◌, ℕ, zero, suc, ◌+◌, ◌<◌, ◌≤◌, ◌⊎◌, Bool, true, false, cond, List, [], ◌∷◌, length, get_or, refl, sym, ap, ◌∙◌, inl, inr, get_or-set_same, get_or-set_other, arith}
 use Rattle.std.proofs.Math.ListN.{set}
-use Rattle.std.proofs.lemmas.Bool.{cases_eq}
+use Rattle.std.proofs.lemmas.Bool.{cases_eq, cases_lt}
+use Rattle.std.proofs.lemmas.List.{get_or_past}
 use Rattle.std.specs.List.{sum_by}
-use Rattle.std.proofs.lemmas.List.Sums.{count_by-le-length, sum_by-set, sum_by-cons}
+use Rattle.std.proofs.lemmas.List.Sums.{count_by-le-length, sum_by-set, sum_by-cons, get_or-le-sum_by}
 use Rattle.page_store.specs.Contents.{count_marked, unmarked}
 use Rattle.std.proofs.lemmas.List.Folds.{sum_by-replicate}
 
@@ -56,4 +57,17 @@ marked_by_set marks page q lt h =
     elim (cases_eq q page) [
       | inl e ↦ ap (λ k. get_or (set marks page true) k false) e ∙ get_or-set_same marks page true false lt
       | inr ne ↦ get_or-set_other marks page q true false ne ∙ elim h [ inl e ↦ absurd (ne e) | inr there ↦ there ]
+    ]
+
+counted_there : (b : Bool) → cond {A = ℕ} b 1 0 ≤ 0 → b ≡ false
+counted_there true le = absurd (omega arith)
+counted_there false le = refl
+
+-- where none is counted, none is marked
+pub none_marked : (marks : List Bool) → count_marked marks ≡ 0 → (page : ℕ) → get_or marks page false ≡ false
+unfolding count_marked
+none_marked marks none page =
+    elim (cases_lt page (length marks)) [
+      | inl lt ↦ counted_there (get_or marks page false) (omega (arith, none, get_or-le-sum_by (λ (b : Bool). cond {A = ℕ} b 1 0) marks page false lt))
+      | inr ge ↦ get_or_past marks page false ge
     ]

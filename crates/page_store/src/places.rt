@@ -10,7 +10,7 @@ pub(crate) const PAGE_SIZE: usize = 4096;
 
 /// Places of 4,096 bytes, each for one page.
 #[derive(Drop)]
-pub struct Places {
+pub(crate) struct Places {
     /// For each page, the number of its place; it counts only where that place names the page as its owner.
     table: Vec<u32>,
     /// For each place, its page.

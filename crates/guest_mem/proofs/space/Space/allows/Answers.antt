@@ -1,7 +1,6 @@
-use Rattle.std.proofs.Common.{◌≡◌, ℕ, ◌+◌, ◌-◌, ◌/◌, ◌<◌, ◌≤◌, true, false, inl, inr, sym, ◌∙◌, arith}
+use Rattle.std.proofs.Common.{inl, inr, sym, ◌∙◌, arith}
 use Rattle.std.proofs.lemmas.Bool.{cases_Bool}
-use Rattle.guest_model.specs.Areas.{wrap}
-use Rattle.guest_mem.proofs.Permitted.{PageIs, first_and_last, in_one_page, first_denied, last_denied}
+use Rattle.guest_mem.proofs.Permitted.{first_and_last, in_one_page, first_denied, last_denied}
 use Rattle.guest_mem.proofs.space.Space.allows.Goals as goal
 
 pub returns-then-not-allows_page-clause-permitted : goal.returns-then-not-allows_page-clause-permitted

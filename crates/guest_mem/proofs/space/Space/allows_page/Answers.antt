@@ -1,5 +1,5 @@
-use Rattle.std.proofs.Common.{◌≡◌, ℕ, ◌+◌, ◌*◌, ◌/◌, ◌<◌, get_or, ◌∙◌, sym, ap, arith}
-use Rattle.std.proofs.lemmas.Grind.{common_steps, elements}
+use Rattle.std.proofs.Common.{◌≡◌, ◌*◌, ◌/◌, get_or, ◌∙◌, sym, ap, arith}
+use Rattle.std.proofs.lemmas.Grind.{elements}
 use Rattle.guest_model.specs.Areas.{is_permitted}
 use Rattle.guest_mem.specs.Sound.{allows, no_rights}
 use Rattle.guest_mem.proofs.Permitted.{permitted_by_table, permitted_below}
@@ -20,5 +20,5 @@ returns-clause-below c = λ h.
     let here : c.index.result.now ≡ get_or c.self.inside.rights.items c.args.page no_rights = grind (arith, elements) in
     let page : 4096 * c.args.page / 4096 ≡ c.args.page = omega arith in
     let permitted = sym (permitted_by_table c.args.access c.self.inside.areas.items c.self.inside.rights.items (4096 * c.args.page) c.self.invariant.whole c.self.invariant.table (omega arith))
-      ∙ ap (λ p. allows c.args.access (get_or c.self.inside.rights.items p no_rights)) page ∙ ap (allows c.args.access) (sym here) ∙ sym c.allows.ensures ∙ h in
+    ∙ ap (λ p. allows c.args.access (get_or c.self.inside.rights.items p no_rights)) page ∙ ap (allows c.args.access) (sym here) ∙ sym c.allows.ensures ∙ h in
     omega (arith, permitted_below c.args.access c.self.inside.areas.items (4096 * c.args.page) c.self.invariant.whole permitted)

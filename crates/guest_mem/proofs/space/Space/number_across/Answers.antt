@@ -1,6 +1,5 @@
-use Rattle.std.proofs.Common.{◌≡◌, ℕ, ◌+◌, ◌<◌, ◌≤◌, ◌∙◌, ap, arith, get_or, length, slice_set, take}
+use Rattle.std.proofs.Common.{◌≡◌, ◌+◌, ◌≤◌, ◌∙◌, ap, arith, get_or, length, slice_set}
 use Rattle.std.proofs.Math.ListN.{length-set}
-use Rattle.std.proofs.lemmas.Grind.{common_steps, elements}
 use Rattle.std.proofs.lemmas.List.{get_or-take, length-take-le}
 use Rattle.std.proofs.lemmas.List.Edits.{fill_by_more}
 use Rattle.guest_model.specs.Areas.{wrap}
@@ -12,8 +11,8 @@ pub loop-i-preserved : goal.loop-i-preserved
 loop-i-preserved c = record {
   len = length-set c.loop-i.bytes c.loop-i.i c.peek_byte.result ∙ c.loop-i.invariant.len;
   read = λ k lt.
-    ap (λ x. get_or (slice_set c.loop-i.bytes c.loop-i.i x) k 0) c.peek_byte.ensures
-    ∙ fill_by_more (λ i. byte_at c.args.self.now.space.bytes (wrap (c.args.at + i))) c.loop-i.bytes c.loop-i.i 0 (omega arith) c.loop-i.invariant.read k lt;
+      ap (λ x. get_or (slice_set c.loop-i.bytes c.loop-i.i x) k 0) c.peek_byte.ensures
+      ∙ fill_by_more (λ i. byte_at c.args.self.now.space.bytes (wrap (c.args.at + i))) c.loop-i.bytes c.loop-i.i 0 (omega arith) c.loop-i.invariant.read k lt;
 }
 
 pub returns : goal.returns

@@ -1,4 +1,4 @@
-use Rattle.std.proofs.Common.{ap, ◌∙◌, arith}
+use Rattle.std.proofs.Common.{ap, ◌∙◌}
 use Rattle.guest_model.specs.Bytes.{number_of}
 use Rattle.guest_mem.proofs.Mapped.{byte_of_space}
 use Rattle.guest_mem.proofs.Numbers.{number_of_zeros, bytes_in_page}

@@ -1,4 +1,4 @@
-use Rattle.std.proofs.Common.{◌≡◌, ℕ, ◌+◌, ◌-◌, ◌<◌, ◌≤◌, ◌++◌, ◌∙◌, refl, sym, ap, length, take, drop, arith}
+use Rattle.std.proofs.Common.{◌+◌, ◌-◌, ◌∙◌, refl, sym, ap, length, take, drop, arith}
 use Rattle.guest_model.specs.Bytes.{put_bytes}
 use Rattle.guest_model.specs.Space.{Space, with_bytes}
 use Rattle.guest_mem.specs.Frames.{frames_for, marked_for}
@@ -32,9 +32,9 @@ loop-done-preserved c =
     record {
       in_bytes = omega arith;
       space =
-        c.store_in_page.ensures.space
-        ∙ ap (λ (s : Space). with_bytes s (put_bytes s.bytes at (take (c.loop-done.done + c.min-part.result - c.loop-done.done) (drop c.loop-done.done c.args.bytes.now)))) c.loop-done.invariant.space
-        ∙ ap (with_bytes c.args.self.now.space) (put_part c.args.self.now.space.bytes c.args.at c.loop-done.done c.min-part.result c.args.bytes.now (omega arith));
+          c.store_in_page.ensures.space
+          ∙ ap (λ (s : Space). with_bytes s (put_bytes s.bytes at (take (c.loop-done.done + c.min-part.result - c.loop-done.done) (drop c.loop-done.done c.args.bytes.now)))) c.loop-done.invariant.space
+          ∙ ap (with_bytes c.args.self.now.space) (put_part c.args.self.now.space.bytes c.args.at c.loop-done.done c.min-part.result c.args.bytes.now (omega arith));
       framed = c.store_in_page.ensures.framed ∙ ap (marked_for c.loop-done.self.framed at) len ∙ ap (λ l. marked_for l at c.min-part.result) c.loop-done.invariant.framed ∙ sym (marked_for-split c.args.self.now.framed c.args.at c.loop-done.done c.min-part.result);
       touched = c.store_in_page.ensures.touched ∙ ap (marked_for c.loop-done.self.touched at) len ∙ ap (λ l. marked_for l at c.min-part.result) c.loop-done.invariant.touched ∙ sym (marked_for-split c.args.self.now.touched c.args.at c.loop-done.done c.min-part.result);
       free = omega (arith, split, taken, same, c.store_in_page.ensures.free, c.loop-done.invariant.free);

@@ -1,4 +1,4 @@
-use Rattle.std.proofs.Common.{◌≡◌, ℕ, ◌+◌, ◌-◌, ◌/◌, ◌≤◌, ◌∙◌, sym, ap, length, arith, cond, get_or}
+use Rattle.std.proofs.Common.{◌+◌, ◌≤◌, ◌∙◌, sym, ap, length, arith}
 use Rattle.guest_model.specs.Areas.{is_mapped}
 use Rattle.guest_mem.specs.Frames.{frames_for, marked_for}
 use Rattle.guest_mem.proofs.Mapped.{space_put}
@@ -9,7 +9,7 @@ pub write-requires-clause-frame : goal.write-requires-clause-frame
 write-requires-clause-frame c =
     let framed = ap (λ m. m.framed) c.self.view_is in
     let enough : frames_for c.self.inside.pages.framed c.args.at (length c.args.bytes.now) ≤ c.self.inside.pages.free =
-      omega (arith, c.requires.frames, ap (λ l. frames_for l c.args.at (length c.args.bytes.now)) framed, ap (λ m. m.free) c.self.view_is) in
+    omega (arith, c.requires.frames, ap (λ l. frames_for l c.args.at (length c.args.bytes.now)) framed, ap (λ m. m.free) c.self.view_is) in
     frame_there c.self.inside.pages.framed c.args.at (length c.args.bytes.now) c.self.inside.pages.free c.self.invariant.framed_len c.ranges.at.fits c.requires.some c.requires.within enough
 
 pub invariant_of-self : goal.invariant_of-self
@@ -21,7 +21,7 @@ pub returns-clause-space : goal.returns-clause-space
 returns-clause-space c =
     let mapped = ap (λ m. is_mapped m.space.areas c.args.at) c.self.view_is ∙ c.requires.mapped in
     space_put c.args.self.now.space _ c.self.inside.pages.flat_bytes _ _ _ c.args.at c.args.bytes.now (ap (λ m. m.space) c.self.view_is) (omega arith)
-      (mapped_among c.self.inside.areas.items c.args.at (length c.args.bytes.now) c.self.invariant.whole mapped c.requires.within) c.write.ensures.bytes
+    (mapped_among c.self.inside.areas.items c.args.at (length c.args.bytes.now) c.self.invariant.whole mapped c.requires.within) c.write.ensures.bytes
 
 pub returns-clause-framed : goal.returns-clause-framed
 returns-clause-framed c =
