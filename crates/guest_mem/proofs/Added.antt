@@ -34,7 +34,7 @@ turned true true d = refl
 turned true false d = refl
 turned false h d = refl
 
-is_mapped-insert : (xs : List Area) (i : ℕ) (x : Area) (a : ℕ) → is_mapped (insert xs i x) a ≡ (holds x a || is_mapped xs a)
+pub is_mapped-insert : (xs : List Area) (i : ℕ) (x : Area) (a : ℕ) → is_mapped (insert xs i x) a ≡ (holds x a || is_mapped xs a)
 is_mapped-insert xs i x a =
     list_any-append (λ y. holds y a) (take i xs) (x ∷ drop i xs)
     ∙ turned (is_mapped (take i xs) a) (holds x a) (is_mapped (drop i xs) a)

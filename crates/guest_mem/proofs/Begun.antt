@@ -19,7 +19,7 @@ use Rattle.guest_mem.specs.Sound.{IsSound, IsWhole, allows, no_rights}
 use Rattle.guest_mem.specs.declared.rights.Rights.{Rights}
 use Rattle.guest_mem.proofs.Mapped.{get-of_areas, same_bytes}
 
-heap_holds : (h a : ℕ) → is_mapped (heap_area h ∷ []) a ≡ false
+pub heap_holds : (h a : ℕ) → is_mapped (heap_area h ∷ []) a ≡ false
 heap_holds h a = grind (arith, nat_tests)
 
 heap_permits : (access : Access) (h a : ℕ) → is_permitted access (heap_area h ∷ []) a ≡ false

@@ -6,3 +6,4 @@ pub mod Written
 pub mod Stored
 pub mod Added
 pub mod Begun
+pub mod Ascending

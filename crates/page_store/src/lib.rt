@@ -3,5 +3,7 @@
 
 mod pages;
 mod places;
+#[cfg(test)]
+mod tests;
 
 pub use pages::Pages;
