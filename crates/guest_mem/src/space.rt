@@ -243,7 +243,7 @@ impl Space {
     #[tactic(auto, unfolding(guest_model::specs::Space::write_number))]
     pub fn store(&mut self, at: u32, size: u8, value: u32) -> Result<(), Denied>
         requires size { (size ≡ 1) ⊎ ((size ≡ 2) ⊎ (size ≡ 4)) }
-        requires frames { FramesSuffice self.old at size }
+        requires frames { all_permitted Access.Write self.old.space.areas at size ≡ true → FramesSuffice self.old at size }
         ensures space { MatchResult result (λ _. write_number self.old.space at size value ≡ Some self.new.space) (λ _. write_number self.old.space at size value ≡ None) }
         ensures framed { OnOk result (self.new.framed ≡ marked_for self.old.framed at size) }
         ensures touched { OnOk result (self.new.touched ≡ marked_for self.old.touched at size) }
