@@ -1,4 +1,4 @@
-use Rattle.std.proofs.Common.{◌≡◌, ℕ, ◌+◌, ◌≤◌, true, false, inl, arith}
+use Rattle.std.proofs.Common.{true, false, inl, arith}
 use Rattle.guest_model.specs.declared.Area.{Area}
 use Rattle.guest_mem.proofs.Ascending.{ascending-empty, ascending-added, apart_behind}
 use Rattle.guest_mem.proofs.tests.small.Goals as goal
