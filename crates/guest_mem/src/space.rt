@@ -255,7 +255,12 @@ impl Space {
             return Err(Denied);
         }
         let bytes = low_bytes(value);
-        self.store_bytes(at, &bytes[..size as usize]);
+        let part = &bytes[..size as usize];
+        if at % 4096 <= 4096 - size as u32 {
+            self.store_in_page(at, part);
+        } else {
+            self.store_bytes(at, part);
+        }
         Ok(())
     }
 
