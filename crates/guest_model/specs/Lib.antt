@@ -1,6 +1,7 @@
 pub mod Areas
 pub mod Bytes
 pub mod Space
+pub mod Added
 pub mod Machine
 pub mod Effect
 pub mod Call

@@ -1,0 +1,12 @@
+//! A guest's memory: areas over pages of bytes.
+#![tactic(auto)]
+
+pub mod laws;
+mod number;
+mod rights;
+mod space;
+#[cfg(test)]
+mod tests;
+
+pub use guest_model::{Access, Area};
+pub use space::{Denied, Space};

@@ -1,0 +1,5 @@
+pub mod Flat
+pub mod Kept
+pub mod Marks
+pub mod Room
+pub mod Rules

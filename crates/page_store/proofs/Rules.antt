@@ -1,0 +1,30 @@
+-- What the checks of `Pages` use.
+use Rattle.std.proofs.Common.{◌≡◌, ℕ, ◌+◌, ◌-◌, ◌^◌, ◌≤◌, false, sym, cond, List, length, get_or, ap, ◌∙◌, inl, inr, arith}
+use Rattle.std.proofs.lemmas.Bool.{cases_lt, cond-false}
+use Rattle.std.proofs.lemmas.Bool.Decides.{nat_tests}
+use Rattle.std.proofs.lemmas.List.{get_or_past}
+use Rattle.page_store.specs.Contents.{flat, is_among}
+use Rattle.page_store.proofs.Flat.{get_or-flat, flat-same, length-flat, flat-empty, length-unmarked, get_or-unmarked}
+use Rattle.page_store.proofs.Kept.{has_place_tells}
+use Rattle.page_store.proofs.Marks.{count_marked-le, count_marked-set, count_marked-unmarked, count_marked-among, set_marked}
+
+pub flat-still : (f g : ℕ → ℕ) → ((q : ℕ) → g q ≡ f q) → flat g ≡ flat f
+flat-still f g is = flat-same f g (λ q _. is q)
+
+past_end : (a n q : ℕ) → a + n ≤ q → is_among a n q ≡ false
+past_end a n q le = grind (arith, nat_tests)
+
+-- bytes written somewhere, seen as the list of all bytes; past the last address each list reads as 0
+pub flat-copied : (f g : ℕ → ℕ) (all source : List ℕ) (a : ℕ) → flat f ≡ all → a + length source ≤ 2 ^ 32
+    → ((q : ℕ) → g q ≡ cond (is_among a (length source) q) (get_or source (q - a) 0) (f q))
+    → (q : ℕ) → get_or (flat g) q 0 ≡ cond (is_among a (length source) q) (get_or source (q - a) 0) (get_or all q 0)
+flat-copied f g all source a e within is q =
+    elim (cases_lt q (2 ^ 32)) [
+      | inl lt ↦ get_or-flat g q lt ∙ is q ∙ ap (cond (is_among a (length source) q) (get_or source (q - a) 0)) (sym (get_or-flat f q lt) ∙ ap (λ l. get_or l q 0) e)
+      | inr ge ↦
+          get_or_past (flat g) q 0 (omega (arith, length-flat g))
+          ∙ sym (get_or_past all q 0 (omega (arith, ap length (sym e), length-flat f)))
+          ∙ sym (cond-false (is_among a (length source) q) (get_or source (q - a) 0) (get_or all q 0) (past_end a (length source) q (omega arith)))
+    ]
+
+pub ruleset flat_rules = (get_or-flat, flat-empty, length-unmarked, get_or-unmarked, length-flat, flat-still, flat-copied, has_place_tells, count_marked-le, count_marked-set, count_marked-unmarked, count_marked-among, set_marked)

@@ -1,0 +1,9 @@
+//! The bytes of a guest's pages, and the frames that written pages take.
+#![tactic(auto)]
+
+mod pages;
+mod places;
+#[cfg(test)]
+mod tests;
+
+pub use pages::Pages;
