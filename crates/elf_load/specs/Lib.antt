@@ -1,2 +1,4 @@
 pub mod Form
+pub mod Header
 pub mod Image
+pub mod Tests

@@ -5,6 +5,8 @@ ghost use Rattle.std.specs.Prelude.{◌≡◌, ◌<◌, ◌^◌, IfOk, length};
 ghost use Rattle.std.specs.Bool.{OnTrue};
 ghost use Rattle.elf_load.specs.Form.{header_of, image_of, is_accepted};
 
+pub mod fault;
+mod fields;
 pub mod image;
 #[cfg(test)]
 mod tests;
