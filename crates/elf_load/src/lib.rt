@@ -7,7 +7,9 @@ ghost use Rattle.elf_load.specs.Form.{header_of, image_of, is_accepted};
 
 pub mod fault;
 mod fields;
+mod header_checks;
 pub mod image;
+mod segment_checks;
 #[cfg(test)]
 mod tests;
 
