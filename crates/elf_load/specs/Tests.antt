@@ -120,15 +120,18 @@ abbrev pub is_outside_user : ProgramHeader → Bool
 is_outside_user header = nat_lt header.address 0x1000 || nat_lt 0x40000000 (header.address + header.memory_size)
 
 -- the first segment that a test is true of, by its index in the table
-abbrev pub first_segment : (ProgramHeader → Bool) → List ProgramHeader → Option ℕ
+unfoldable pub first_segment : (ProgramHeader → Bool) → List ProgramHeader → Option ℕ
 first_segment test headers = position (λ header. is_segment header && test header) headers
 
--- the first segment that shares a page with one before it in the table
-abbrev pub first_sharing : List ProgramHeader → Option ℕ
-first_sharing headers = position (λ e. is_segment e.1 && shares_page (take e.0 headers) e.1) (enumerate_from 0 headers)
+-- the program header at this index is a segment that shares a page with one before it in the table
+abbrev pub is_sharing : List ProgramHeader → ℕ × ProgramHeader → Bool
+is_sharing headers (k, header) = is_segment header && shares_page (take k headers) header
+
+unfoldable pub first_sharing : List ProgramHeader → Option ℕ
+first_sharing headers = position (is_sharing headers) (enumerate_from 0 headers)
 
 -- the pages of all segments and 256 pages of the stack are more than 16,384
-abbrev pub are_too_many_pages : List ProgramHeader → Bool
+unfoldable pub are_too_many_pages : List ProgramHeader → Bool
 are_too_many_pages headers = nat_lt 16384 (sum_by page_count (filter is_segment headers) + 256)
 
 -- the bytes from one address to another are in the segment's memory
@@ -136,7 +139,7 @@ abbrev pub holds : ℕ → ℕ → ProgramHeader → Bool
 holds from to header = is_segment header && nat_le header.address from && nat_le to (header.address + header.memory_size)
 
 -- the entry is a word of a segment that can be executed
-abbrev pub is_entry : ℕ → List ProgramHeader → Bool
+unfoldable pub is_entry : ℕ → List ProgramHeader → Bool
 is_entry entry headers = (entry % 4 == 0) && list_any (λ header. can_execute header && holds entry (entry + 4) header) headers
 
 -- the tests of the program headers, in a file of this size with this entry

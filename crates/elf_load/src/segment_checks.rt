@@ -1,17 +1,29 @@
 // The tests of the program headers.
-ghost use Rattle.std.specs.Prelude.{◌≡◌, ◌&&◌, true};
+ghost use Rattle.std.specs.Prelude.{◌≡◌, ◌&&◌, true, ◌≤◌, ◌<◌, ◌^◌, length, ◌+◌, IfSome};
 ghost use Rattle.std.specs.List.{list_any};
 ghost use Rattle.elf_load.specs.Tests.{first_fault, segment_tests, is_dynamic, is_segment, can_execute, can_write, ends_past_file, is_malformed, have_page_in_common, shares_page, is_outside_user, first_segment, first_sharing, are_too_many_pages, holds, is_entry, first_page, last_page, page_count};
 
+use crate::fault::ElfFault;
 use crate::fields::ProgramHeader;
 
 const PAGE: u64 = 4096;
+
+// The pages of the stack, and the most pages that may be mapped.
+const STACK_PAGES: u64 = 256;
+const MAX_PAGES: u64 = 16_384;
 
 // Whether the program header asks for an interpreter or for dynamic linking: PT_INTERP or PT_DYNAMIC.
 fn is_dynamic(header: &ProgramHeader) -> bool
     ensures { result ≡ is_dynamic header.now }
 {
     header.kind == 2 || header.kind == 3
+}
+
+// Whether a program header asks for an interpreter or for dynamic linking.
+fn is_any_dynamic(headers: &[ProgramHeader]) -> bool
+    ensures { result ≡ list_any is_dynamic headers.now }
+{
+    headers.iter().any(is_dynamic)
 }
 
 /// Whether the program header is a segment: of type PT_LOAD, with some memory.
@@ -63,7 +75,8 @@ fn first_page(header: &ProgramHeader) -> u64
 // The number of the segment's last page.
 fn last_page(header: &ProgramHeader) -> u64
     requires { is_segment header.now ≡ true }
-    ensures { result ≡ last_page header.now }
+    ensures page { result ≡ last_page header.now }
+    ensures small { result < 2 ^ 21 }
 {
     (header.address as u64 + header.memory_size as u64 - 1) / PAGE
 }
@@ -95,8 +108,10 @@ fn is_outside_user(header: &ProgramHeader) -> bool
 }
 
 // The first segment whose bytes end past a file of `size` bytes.
+#[tactic(auto, unfolding(crate::specs::Tests::first_segment))]
 fn first_out_of_file(size: usize, headers: &[ProgramHeader]) -> Option<usize>
-    ensures { result ≡ first_segment (ends_past_file size) headers.now }
+    ensures first { result ≡ first_segment (ends_past_file size) headers.now }
+    ensures below { IfSome result (λ k. k < length headers.now) }
 {
     headers
         .iter()
@@ -104,8 +119,10 @@ fn first_out_of_file(size: usize, headers: &[ProgramHeader]) -> Option<usize>
 }
 
 // The first segment that is malformed.
+#[tactic(auto, unfolding(crate::specs::Tests::first_segment))]
 fn first_malformed(headers: &[ProgramHeader]) -> Option<usize>
-    ensures { result ≡ first_segment is_malformed headers.now }
+    ensures first { result ≡ first_segment is_malformed headers.now }
+    ensures below { IfSome result (λ k. k < length headers.now) }
 {
     headers
         .iter()
@@ -114,7 +131,8 @@ fn first_malformed(headers: &[ProgramHeader]) -> Option<usize>
 
 // The first segment that has a page in common with one before it in the table.
 fn first_sharing(headers: &[ProgramHeader]) -> Option<usize>
-    ensures { result ≡ first_sharing headers.now }
+    ensures first { result ≡ first_sharing headers.now }
+    ensures below { IfSome result (λ k. k < length headers.now) }
 {
     for (k, header) in headers.iter().enumerate() {
         if is_segment(header) && shares_page(&headers[..k], header) {
@@ -125,8 +143,10 @@ fn first_sharing(headers: &[ProgramHeader]) -> Option<usize>
 }
 
 // The first segment that can be written and executed.
+#[tactic(auto, unfolding(crate::specs::Tests::first_segment))]
 fn first_writable_code(headers: &[ProgramHeader]) -> Option<usize>
-    ensures { result ≡ first_segment (λ header. can_write header && can_execute header) headers.now }
+    ensures first { result ≡ first_segment (λ header. can_write header && can_execute header) headers.now }
+    ensures below { IfSome result (λ k. k < length headers.now) }
 {
     headers
         .iter()
@@ -134,10 +154,95 @@ fn first_writable_code(headers: &[ProgramHeader]) -> Option<usize>
 }
 
 // The first segment that is not in the user's memory.
+#[tactic(auto, unfolding(crate::specs::Tests::first_segment))]
 fn first_outside_user(headers: &[ProgramHeader]) -> Option<usize>
-    ensures { result ≡ first_segment is_outside_user headers.now }
+    ensures first { result ≡ first_segment is_outside_user headers.now }
+    ensures below { IfSome result (λ k. k < length headers.now) }
 {
     headers
         .iter()
         .position(|header| is_segment(header) && is_outside_user(header))
+}
+
+// How many pages the segment is in.
+fn page_count(header: &ProgramHeader) -> u64
+    requires { is_segment header.now ≡ true }
+    ensures count { result ≡ page_count header.now }
+    ensures small { result ≤ 2 ^ 21 }
+{
+    last_page(header) + 1 - first_page(header)
+}
+
+// Whether the pages of the segments and of the stack are more than may be mapped.
+#[tactic(auto, unfolding(crate::specs::Tests::are_too_many_pages))]
+fn are_too_many_pages(headers: &[ProgramHeader]) -> bool
+    requires { length headers.now ≤ 32 }
+    ensures { result ≡ are_too_many_pages headers.now }
+{
+    let mut pages = 0u64;
+    for header in headers {
+        if is_segment(header) {
+            pages += page_count(header);
+        }
+    }
+    pages + STACK_PAGES > MAX_PAGES
+}
+
+/// Whether the segment's memory holds the bytes from address `from` to before `to`.
+pub fn holds(from: u64, to: u64, header: &ProgramHeader) -> bool
+    ensures { result ≡ holds from to header.now }
+{
+    is_segment(header)
+        && header.address as u64 <= from
+        && to <= header.address as u64 + header.memory_size as u64
+}
+
+// Whether a segment that can be executed holds the bytes from address `from` to before `to`.
+fn is_code(from: u64, to: u64, headers: &[ProgramHeader]) -> bool
+    ensures { result ≡ list_any (λ header. can_execute header && holds from to header) headers.now }
+{
+    headers
+        .iter()
+        .any(|header| can_execute(header) && holds(from, to, header))
+}
+
+// Whether the entry is a word of a segment that can be executed.
+#[tactic(auto, unfolding(crate::specs::Tests::is_entry))]
+fn is_entry(entry: u32, headers: &[ProgramHeader]) -> bool
+    ensures { result ≡ is_entry entry headers.now }
+{
+    let from = entry as u64;
+    entry % 4 == 0 && is_code(from, from + 4, headers)
+}
+
+/// The first fault of the program headers, at most 32, in a file of `size` bytes with this entry.
+pub fn segment_fault(size: usize, entry: u32, headers: &[ProgramHeader]) -> Option<ElfFault>
+    requires { length headers.now ≤ 32 }
+    ensures { result ≡ first_fault (segment_tests size entry headers.now) }
+{
+    if is_any_dynamic(headers) {
+        return Some(ElfFault::Interpreter);
+    }
+    if let Some(k) = first_out_of_file(size, headers) {
+        return Some(ElfFault::SegmentOutOfFile { k: k as u16 });
+    }
+    if let Some(k) = first_malformed(headers) {
+        return Some(ElfFault::BadSegment { k: k as u16 });
+    }
+    if let Some(k) = first_sharing(headers) {
+        return Some(ElfFault::SharedPage { k: k as u16 });
+    }
+    if let Some(k) = first_writable_code(headers) {
+        return Some(ElfFault::WritableCode { k: k as u16 });
+    }
+    if let Some(k) = first_outside_user(headers) {
+        return Some(ElfFault::OutsideUser { k: k as u16 });
+    }
+    if are_too_many_pages(headers) {
+        return Some(ElfFault::TooManyPages);
+    }
+    if !is_entry(entry, headers) {
+        return Some(ElfFault::BadEntry);
+    }
+    None
 }
