@@ -1,2 +1,3 @@
 pub mod Accepted
 mod Found
+mod Search

@@ -62,11 +62,13 @@ symbol_at file at = record {
   section = half file (at + 14);  -- st_shndx
 }
 
+-- the program header at an index of the table
+abbrev pub nth_program_header : List ℕ → ℕ → ProgramHeader
+nth_program_header file k = program_header_at file ((file_header file).program_headers_at + 32 * k)
+
 -- the program header table
 unfoldable pub program_headers : List ℕ → List ProgramHeader
-program_headers file = map header_at (range_with_len 0 (file_header file).program_header_count) where
-  header_at : ℕ → ProgramHeader
-  header_at k = program_header_at file ((file_header file).program_headers_at + 32 * k)
+program_headers file = map (nth_program_header file) (range_with_len 0 (file_header file).program_header_count)
 
 -- the section at an index of the section header table
 unfoldable pub section : List ℕ → ℕ → SectionHeader

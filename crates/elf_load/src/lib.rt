@@ -10,6 +10,7 @@ mod fields;
 mod header_checks;
 pub mod image;
 mod segment_checks;
+mod tables;
 #[cfg(test)]
 mod tests;
 
