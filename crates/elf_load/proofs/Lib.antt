@@ -1,3 +1,5 @@
 pub mod Accepted
+mod Entries
 mod Found
+mod Names
 mod Search

@@ -1,7 +1,10 @@
 -- A search of a table, from its first entry on.
 use Rattle.std.proofs.Common.{◌≡◌, ◌<◌, ◌+◌, ℕ, zero, suc, true, false, cond, map, refl, ap, subst, ◌∙◌, arith}
 use Rattle.std.specs.Prelude.{Bool, Option, Some, None, find}
-use Rattle.std.specs.List.{range_with_len}
+use Rattle.std.specs.List.{range_with_len, list_any}
+use Rattle.std.proofs.lemmas.List.Elements.{All-from_get_or}
+use Rattle.std.proofs.lemmas.List.Folds.{list_any_at, list_any_none}
+use Rattle.std.proofs.lemmas.List.FromFn.{get_or-map-range_with_len, length-map-range_with_len}
 
 module _ {X : Type 0} (p : X → Bool) (f : ℕ → X) where
   first_from : (a n k : ℕ) → k < n → ((j : ℕ) → j < k → p (f (a + j)) ≡ false) → p (f (a + k)) ≡ true → find p (map f (range_with_len a n)) ≡ Some (f (a + k))
@@ -37,3 +40,18 @@ module _ {X : Type 0} (p : X → Bool) (f : ℕ → X) where
   none_is n before =
       let zeroth : (j : ℕ) → j ≡ 0 + j = λ j. omega arith in
       none_from 0 n (λ j below. subst (λ i. p (f i) ≡ false) (zeroth j) (before j below))
+
+  -- some entry passes
+  pub any_is : (n k : ℕ) → k < n → p (f k) ≡ true → list_any p (map f (range_with_len 0 n)) ≡ true
+  any_is n k lt at =
+      let len = length-map-range_with_len f 0 n in
+      list_any_at p (map f (range_with_len 0 n)) k (f 0) (omega arith)
+      (ap p (get_or-map-range_with_len f 0 n k k (f 0) lt (omega arith)) ∙ at)
+
+  -- no entry does
+  pub not_any_is : (n : ℕ) → ((j : ℕ) → j < n → p (f j) ≡ false) → list_any p (map f (range_with_len 0 n)) ≡ false
+  not_any_is n before =
+      let len = length-map-range_with_len f 0 n in
+      list_any_none p (map f (range_with_len 0 n))
+      (All-from_get_or (λ x. p x ≡ false) (map f (range_with_len 0 n)) (f 0)
+      (λ j lt. ap p (get_or-map-range_with_len f 0 n j j (f 0) (omega arith) (omega arith)) ∙ before j (omega arith)))

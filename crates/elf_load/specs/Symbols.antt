@@ -10,7 +10,7 @@ use Rattle.elf_load.specs.declared.fields.SectionHeader.{SectionHeader}
 use Rattle.elf_load.specs.declared.fields.Symbol.{Symbol}
 use Rattle.elf_load.specs.Header.{file_header, section, section_headers, symbol_at}
 use Rattle.elf_load.specs.Image.{FunctionFields}
-use Rattle.elf_load.specs.Tests.{can_execute, holds}
+use Rattle.elf_load.specs.Tests.{is_code}
 
 -- the first section of type SHT_SYMTAB
 unfoldable pub symbol_table : List ℕ → Option SectionHeader
@@ -44,6 +44,10 @@ is_function symbol = (symbol.kind == 2) && not (symbol.section == 0)
 abbrev pub has_name : List ℕ → Symbol → Bool
 has_name names symbol = list_any (λ byte. byte == 0) (drop symbol.name names)
 
+-- a function in use whose name has no end
+abbrev pub is_unnamed : List ℕ → Symbol → Bool
+is_unnamed names symbol = is_function symbol && not (has_name names symbol)
+
 -- the table is no whole number of symbols of 16 bytes, or ends past the file, or is linked to no section
 abbrev pub is_malformed_table : List ℕ → SectionHeader → Bool
 is_malformed_table file table =
@@ -61,7 +65,7 @@ unfoldable pub is_bad_table : List ℕ → SectionHeader → Bool
 is_bad_table file table =
     is_malformed_table file table
     || are_malformed_names file (section file table.link)
-    || list_any (λ symbol. is_function symbol && not (has_name (names file table) symbol)) (symbols file table)
+    || list_any (is_unnamed (names file table)) (symbols file table)
 
 -- there is a symbol table, and it is bad
 unfoldable pub are_bad_symbols : List ℕ → Bool
@@ -72,13 +76,9 @@ unfoldable pub by_address : {X : Type 0} → List (ℕ × X) → List (ℕ × X)
 by_address [] = []
 by_address ((address, x) ∷ rest) = insert_entry nat_cmp (by_address rest) address x
 
--- the address is in a segment that can be executed
-abbrev pub is_code : List ProgramHeader → ℕ → Bool
-is_code headers address = list_any (λ header. can_execute header && holds address (address + 1) header) headers
-
 -- the address of a function in use in code, with the offset of its name
 abbrev pub function_entry : List ProgramHeader → Symbol → Option (ℕ × ℕ)
-function_entry headers symbol = if is_function symbol && is_code headers symbol.value then Some (symbol.value, symbol.name) else None
+function_entry headers symbol = if is_function symbol && is_code symbol.value (symbol.value + 1) headers then Some (symbol.value, symbol.name) else None
 
 -- the function at an address, with the name that begins at an offset of these bytes and ends before a zero
 abbrev pub function_named : List ℕ → ℕ × ℕ → FunctionFields

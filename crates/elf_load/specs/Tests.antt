@@ -138,9 +138,13 @@ are_too_many_pages headers = nat_lt 16384 (sum_by page_count (filter is_segment 
 abbrev pub holds : ℕ → ℕ → ProgramHeader → Bool
 holds from to header = is_segment header && nat_le header.address from && nat_le to (header.address + header.memory_size)
 
+-- the bytes from one address to another are in a segment that can be executed
+abbrev pub is_code : ℕ → ℕ → List ProgramHeader → Bool
+is_code from to headers = list_any (λ header. can_execute header && holds from to header) headers
+
 -- the entry is a word of a segment that can be executed
 unfoldable pub is_entry : ℕ → List ProgramHeader → Bool
-is_entry entry headers = (entry % 4 == 0) && list_any (λ header. can_execute header && holds entry (entry + 4) header) headers
+is_entry entry headers = (entry % 4 == 0) && is_code entry (entry + 4) headers
 
 -- the tests of the program headers, in a file of this size with this entry
 abbrev pub segment_tests : ℕ → ℕ → List ProgramHeader → List (Option ElfFault)

@@ -7,9 +7,11 @@ ghost use Rattle.elf_load.specs.Form.{header_of, image_of, is_accepted};
 
 pub mod fault;
 mod fields;
+mod functions;
 mod header_checks;
 pub mod image;
 mod segment_checks;
+mod symbol_checks;
 mod tables;
 #[cfg(test)]
 mod tests;

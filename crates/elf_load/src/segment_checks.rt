@@ -1,7 +1,7 @@
 // The tests of the program headers.
 ghost use Rattle.std.specs.Prelude.{◌≡◌, ◌&&◌, true, ◌≤◌, ◌<◌, ◌^◌, length, ◌+◌, IfSome};
 ghost use Rattle.std.specs.List.{list_any};
-ghost use Rattle.elf_load.specs.Tests.{first_fault, segment_tests, is_dynamic, is_segment, can_execute, can_write, ends_past_file, is_malformed, have_page_in_common, shares_page, is_outside_user, first_segment, first_sharing, are_too_many_pages, holds, is_entry, first_page, last_page, page_count};
+ghost use Rattle.elf_load.specs.Tests.{first_fault, segment_tests, is_dynamic, is_segment, can_execute, can_write, ends_past_file, is_malformed, have_page_in_common, shares_page, is_outside_user, first_segment, first_sharing, are_too_many_pages, holds, is_code, is_entry, first_page, last_page, page_count};
 
 use crate::fault::ElfFault;
 use crate::fields::ProgramHeader;
@@ -188,8 +188,8 @@ fn are_too_many_pages(headers: &[ProgramHeader]) -> bool
     pages + STACK_PAGES > MAX_PAGES
 }
 
-/// Whether the segment's memory holds the bytes from address `from` to before `to`.
-pub fn holds(from: u64, to: u64, header: &ProgramHeader) -> bool
+// Whether the segment's memory holds the bytes from address `from` to before `to`.
+fn holds(from: u64, to: u64, header: &ProgramHeader) -> bool
     ensures { result ≡ holds from to header.now }
 {
     is_segment(header)
@@ -197,9 +197,9 @@ pub fn holds(from: u64, to: u64, header: &ProgramHeader) -> bool
         && to <= header.address as u64 + header.memory_size as u64
 }
 
-// Whether a segment that can be executed holds the bytes from address `from` to before `to`.
-fn is_code(from: u64, to: u64, headers: &[ProgramHeader]) -> bool
-    ensures { result ≡ list_any (λ header. can_execute header && holds from to header) headers.now }
+/// Whether a segment that can be executed holds the bytes from address `from` to before `to`.
+pub fn is_code(from: u64, to: u64, headers: &[ProgramHeader]) -> bool
+    ensures { result ≡ is_code from to headers.now }
 {
     headers
         .iter()
