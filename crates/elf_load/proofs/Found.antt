@@ -1,11 +1,13 @@
 -- What searches of the program header table find.
 use Rattle.std.proofs.Common.{cond, refl, [], ◌∷◌, ◌≡◌, ◌≤◌, ◌<◌, ◌+◌, ℕ, List, length, get_or, true, false, take, ap, sym, ◌∙◌, arith, zero-add}
-use Rattle.std.specs.Prelude.{if◌then◌else◌, Option, Some, None, nat_lt, sum_by, filter}
+use Rattle.std.specs.Prelude.{if◌then◌else◌, Option, Some, None, nat_lt, sum_by, filter, Bool, find, slice_get}
 use Rattle.std.specs.List.{enumerate_from, position_or_len}
 use Rattle.std.proofs.lemmas.Bool.Decides.{nat_tests}
 use Rattle.std.proofs.lemmas.List.FromFn.{get_or-enumerate_from, length-enumerate_from}
 use Rattle.std.proofs.lemmas.List.Sums.{position_or_len_is, sum_by-append}
 use Rattle.std.proofs.lemmas.List.Elements.{filter_more}
+use Rattle.std.proofs.lemmas.List.Folds.{find_at}
+use Rattle.std.proofs.lemmas.Option.{slice_get-get_or, slice_get_past}
 use Rattle.elf_load.specs.declared.fields.ProgramHeader.{ProgramHeader}
 use Rattle.elf_load.specs.Tests.{is_sharing, first_sharing, is_segment, page_count}
 
@@ -48,3 +50,12 @@ pages_more headers i d lt =
     ap (sum_by page_count) (filter_more is_segment headers i d lt)
     ∙ (sum_by-append page_count (filter is_segment (take i headers)) (cond (is_segment (get_or headers i d)) (get_or headers i d ∷ []) [])
     ∙ ap (λ (n : ℕ). sum_by page_count (filter is_segment (take i headers)) + n) (pages_of_one (get_or headers i d)))
+
+-- the first element that passes a test, and where none does
+pub found_first : {X : Type 0} (p : X → Bool) (xs : List X) (k : ℕ) (d : X) → k < length xs → ((j : ℕ) → j < k → p (get_or xs j d) ≡ false) → p (get_or xs k d) ≡ true → find p xs ≡ Some (get_or xs k d)
+found_first p xs k d lt before at =
+    find_at p xs ∙ (ap (slice_get xs) (position_or_len_is p xs k d (omega arith) before (λ _. at)) ∙ slice_get-get_or xs k d lt)
+
+pub found_none : {X : Type 0} (p : X → Bool) (xs : List X) (d : X) → ((j : ℕ) → j < length xs → p (get_or xs j d) ≡ false) → find p xs ≡ None
+found_none p xs d before =
+    find_at p xs ∙ (ap (slice_get xs) (position_or_len_is p xs (length xs) d (omega arith) before (λ lt. absurd (omega arith))) ∙ slice_get_past xs (length xs) (omega arith))

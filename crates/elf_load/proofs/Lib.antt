@@ -2,4 +2,5 @@ pub mod Accepted
 mod Entries
 mod Found
 mod Names
+mod Order
 mod Search

@@ -1,6 +1,6 @@
 -- Names that have an end.
-use Rattle.std.proofs.Common.{◌≡◌, ◌≤◌, ◌<◌, ◌+◌, ◌-◌, ℕ, List, length, drop, get_or, true, false, ap, sym, subst, ◌∙◌, arith, length-drop, inl, inr}
-use Rattle.std.specs.Prelude.{Bool, ◌&&◌, ◌||◌, not, ◌==◌, nat_lt}
+use Rattle.std.proofs.Common.{◌≡◌, ◌≤◌, ◌<◌, ◌+◌, ◌-◌, ℕ, List, length, drop, get_or, true, false, refl, ap, sym, subst, ◌∙◌, arith, length-drop, inl, inr}
+use Rattle.std.specs.Prelude.{Bool, ◌&&◌, ◌||◌, not, ◌==◌, nat_lt, nat_le}
 use Rattle.std.specs.List.{list_any}
 use Rattle.std.proofs.lemmas.Bool.{cases_Bool}
 use Rattle.std.proofs.lemmas.Bool.Decides.{nat_tests}
@@ -9,8 +9,8 @@ use Rattle.std.proofs.lemmas.List.Elements.{All-from_get_or}
 use Rattle.std.proofs.lemmas.List.Folds.{list_any_at, list_any_none}
 use Rattle.elf_load.specs.declared.fields.SectionHeader.{SectionHeader}
 use Rattle.elf_load.specs.declared.fields.Symbol.{Symbol}
-use Rattle.elf_load.specs.Header.{section}
-use Rattle.elf_load.specs.Symbols.{is_function, is_unnamed, has_name, is_malformed_table, are_malformed_names, section_bytes, names, symbols, is_bad_table}
+use Rattle.elf_load.specs.Header.{file_header, section}
+use Rattle.elf_load.specs.Symbols.{section_ends_past_file, is_function, is_unnamed, has_name, is_malformed_table, are_malformed_names, section_bytes, names, symbols, is_bad_table}
 
 -- what is known of the place behind the last zero byte, of the first n bytes
 pub record EndsAt (names : List ℕ) (n end : ℕ) : Type 0 where
@@ -64,3 +64,24 @@ module _ (file : List ℕ) (table strings : SectionHeader) (linked : strings ≡
 pub bad_shape : (file : List ℕ) (table : SectionHeader) → is_malformed_table file table ≡ true → true ≡ is_bad_table file table
 unfolding is_bad_table
 bad_shape file table is = sym (ap (λ (a : Bool). a || are_malformed_names file (section file table.link) || list_any (is_unnamed (names file table)) (symbols file table)) is)
+
+neither : (a b : Bool) → (a || b) ≡ false → (a ≡ false) × (b ≡ false)
+neither true b is = cc
+neither false b is = (refl, is)
+
+-- what is known of a table that is not bad
+shape_of_good : (file : List ℕ) (table : SectionHeader) → is_bad_table file table ≡ false → is_malformed_table file table ≡ false
+unfolding is_bad_table
+shape_of_good file table good = (neither _ _ (neither _ _ good).0).0
+
+pub table_in_file : (file : List ℕ) (table : SectionHeader) → is_bad_table file table ≡ false → section_ends_past_file (length file) table ≡ false
+table_in_file file table good = (neither _ _ (neither _ _ (shape_of_good file table good)).0).1
+
+pub linked_below : (file : List ℕ) (table : SectionHeader) → is_bad_table file table ≡ false → table.link < (file_header file).section_header_count
+linked_below file table good =
+    let below : nat_le (file_header file).section_header_count table.link ≡ false = (neither _ _ (shape_of_good file table good)).1 in
+    grind (arith, nat_tests)
+
+pub names_in_file : (file : List ℕ) (table : SectionHeader) → is_bad_table file table ≡ false → section_ends_past_file (length file) (section file table.link) ≡ false
+unfolding is_bad_table
+names_in_file file table good = (neither _ _ (neither _ _ (neither _ _ good).0).1).1

@@ -28,9 +28,9 @@ segment_of file header = record {
   bytes = slice_range file header.offset (header.offset + header.file_size);
 }
 
--- the segments, in order of address
-unfoldable pub segments_of : List ℕ → List ProgramHeader → List SegmentFields
-segments_of file headers = map (segment_of file) (values_of (by_address (map (λ header. (header.address, header)) (filter is_segment headers))))
+-- the headers of the segments, in order of address
+unfoldable pub in_order : List ProgramHeader → List ProgramHeader
+in_order headers = values_of (by_address (map (λ header. (header.address, header)) (filter is_segment headers)))
 
 -- the segment's bytes in the file hold the program header table
 abbrev pub holds_table : FileHeader → ProgramHeader → Bool
@@ -49,6 +49,6 @@ image_of_elf file = record {
   entry = (file_header file).entry;
   phdr = table_address (file_header file) (program_headers file);
   phnum = (file_header file).program_header_count;
-  segments = segments_of file (program_headers file);
+  segments = map (segment_of file) (in_order (program_headers file));
   functions = functions file (program_headers file);
 }

@@ -1,12 +1,15 @@
 // The functions that the symbol table names.
-ghost use Rattle.std.specs.Prelude.{◌≡◌, ◌==◌, false, not, length, drop, map, take_while, IfOk};
+ghost use Rattle.std.specs.Prelude.{◌≡◌, ◌==◌, true, false, not, length, drop, map, take_while, IfOk};
 ghost use Rattle.std.specs.List.{filter_map};
-ghost use Rattle.elf_load.specs.Symbols.{section_ends_past_file, symbols, by_address, function_entry, function_named};
+ghost use Rattle.elf_load.specs.Header.{file_header};
+ghost use Rattle.elf_load.specs.Symbols.{section_ends_past_file, symbols, names, by_address, function_entry, function_named, is_bad_table, table_functions};
+ghost use Rattle.elf_load.specs.Tests.{has_tables};
 
-use crate::fields::{ProgramHeader, SectionHeader, symbol_at};
+use crate::fields::{FileHeader, ProgramHeader, SectionHeader, symbol_at};
 use crate::image::Function;
 use crate::segment_checks::is_code;
-use crate::symbol_checks::{SYMBOL, is_function};
+use crate::symbol_checks::{SYMBOL, is_function, section_bytes};
+use crate::tables::section;
 use std::alloc::{AllocError, Global};
 use std::collections::BTreeMap;
 
@@ -76,4 +79,31 @@ fn pairs(alloc: Global, map: BTreeMap<u32, u32>) -> Result<Vec<(u32, u32)>, Allo
     ensures { IfOk result (λ pairs. pairs.items ≡ map.entries) }
 {
     map.into_iter().collect(alloc)
+}
+
+// The names of the symbols of a table that is not bad.
+fn names<'a>(file: &'a [u8], header: &FileHeader, table: &SectionHeader) -> &'a [u8]
+    requires header { header.now ≡ file_header file.now }
+    requires tables { has_tables header.now (length file.now) ≡ true }
+    requires good { is_bad_table file.now table.now ≡ false }
+    ensures { result.now ≡ names file.now table.now }
+{
+    section_bytes(file, &section(file, header, table.link as usize))
+}
+
+/// The functions in use in code that a table names, in order of address. The table is not bad.
+pub fn table_functions(
+    alloc: Global,
+    file: &[u8],
+    header: &FileHeader,
+    table: &SectionHeader,
+    headers: &[ProgramHeader],
+) -> Result<Vec<Function>, AllocError>
+    requires header { header.now ≡ file_header file.now }
+    requires tables { has_tables header.now (length file.now) ≡ true }
+    requires good { is_bad_table file.now table.now ≡ false }
+    ensures { IfOk result (λ functions. functions.items ≡ table_functions file.now headers.now table.now) }
+{
+    let entries = pairs(alloc, entries(alloc, file, table, headers)?)?;
+    named(alloc, names(file, header, table), &entries)
 }

@@ -11,6 +11,7 @@ mod functions;
 mod header_checks;
 pub mod image;
 mod segment_checks;
+mod segments;
 mod symbol_checks;
 mod tables;
 #[cfg(test)]
