@@ -2,7 +2,7 @@
 use Rattle.std.proofs.Common.{◌≡◌, ◌≤◌, ◌<◌, ◌+◌, ◌-◌, ℕ, List, length, drop, get_or, true, false, refl, ap, sym, subst, ◌∙◌, arith, length-drop, inl, inr}
 use Rattle.std.specs.Prelude.{Bool, ◌&&◌, ◌||◌, not, ◌==◌, nat_lt, nat_le}
 use Rattle.std.specs.List.{list_any}
-use Rattle.std.proofs.lemmas.Bool.{cases_Bool}
+use Rattle.std.proofs.lemmas.Bool.{cases_Bool, or_parts}
 use Rattle.std.proofs.lemmas.Bool.Decides.{nat_tests}
 use Rattle.std.proofs.lemmas.List.{get_or-drop}
 use Rattle.std.proofs.lemmas.List.Elements.{All-from_get_or}
@@ -65,23 +65,19 @@ pub bad_shape : (file : List ℕ) (table : SectionHeader) → is_malformed_table
 unfolding is_bad_table
 bad_shape file table is = sym (ap (λ (a : Bool). a || are_malformed_names file (section file table.link) || list_any (is_unnamed (names file table)) (symbols file table)) is)
 
-neither : (a b : Bool) → (a || b) ≡ false → (a ≡ false) × (b ≡ false)
-neither true b is = cc
-neither false b is = (refl, is)
-
 -- what is known of a table that is not bad
 shape_of_good : (file : List ℕ) (table : SectionHeader) → is_bad_table file table ≡ false → is_malformed_table file table ≡ false
 unfolding is_bad_table
-shape_of_good file table good = (neither _ _ (neither _ _ good).0).0
+shape_of_good file table good = (or_parts _ _ (or_parts _ _ good).0).0
 
 pub table_in_file : (file : List ℕ) (table : SectionHeader) → is_bad_table file table ≡ false → section_ends_past_file (length file) table ≡ false
-table_in_file file table good = (neither _ _ (neither _ _ (shape_of_good file table good)).0).1
+table_in_file file table good = (or_parts _ _ (or_parts _ _ (shape_of_good file table good)).0).1
 
 pub linked_below : (file : List ℕ) (table : SectionHeader) → is_bad_table file table ≡ false → table.link < (file_header file).section_header_count
 linked_below file table good =
-    let below : nat_le (file_header file).section_header_count table.link ≡ false = (neither _ _ (shape_of_good file table good)).1 in
+    let below : nat_le (file_header file).section_header_count table.link ≡ false = (or_parts _ (nat_le (file_header file).section_header_count table.link) (shape_of_good file table good)).1 in
     grind (arith, nat_tests)
 
 pub names_in_file : (file : List ℕ) (table : SectionHeader) → is_bad_table file table ≡ false → section_ends_past_file (length file) (section file table.link) ≡ false
 unfolding is_bad_table
-names_in_file file table good = (neither _ _ (neither _ _ (neither _ _ good).0).1).1
+names_in_file file table good = (or_parts _ _ (or_parts _ _ (or_parts _ _ good).0).1).1

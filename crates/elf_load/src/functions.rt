@@ -2,7 +2,7 @@
 ghost use Rattle.std.specs.Prelude.{◌≡◌, ◌==◌, true, false, not, length, drop, map, take_while, IfOk};
 ghost use Rattle.std.specs.List.{filter_map};
 ghost use Rattle.elf_load.specs.Header.{file_header};
-ghost use Rattle.elf_load.specs.Symbols.{section_ends_past_file, symbols, names, by_address, function_entry, function_named, is_bad_table, table_functions};
+ghost use Rattle.elf_load.specs.Symbols.{section_ends_past_file, symbols, names, by_address, function_entry, function_named, is_bad_table, table_functions, symbol_table, are_bad_symbols, functions};
 ghost use Rattle.elf_load.specs.Tests.{has_tables};
 
 use crate::fields::{FileHeader, ProgramHeader, SectionHeader, symbol_at};
@@ -91,8 +91,8 @@ fn names<'a>(file: &'a [u8], header: &FileHeader, table: &SectionHeader) -> &'a 
     section_bytes(file, &section(file, header, table.link as usize))
 }
 
-/// The functions in use in code that a table names, in order of address. The table is not bad.
-pub fn table_functions(
+// The functions in use in code that a table names, in order of address. The table is not bad.
+fn table_functions(
     alloc: Global,
     file: &[u8],
     header: &FileHeader,
@@ -106,4 +106,26 @@ pub fn table_functions(
 {
     let entries = pairs(alloc, entries(alloc, file, table, headers)?)?;
     named(alloc, names(file, header, table), &entries)
+}
+
+/// The functions in use in code that the file's symbol table names, in order of address; none if it has no
+/// symbol table. The table is not bad.
+#[tactic(auto, unfolding(crate::specs::Symbols::functions))]
+pub fn functions(
+    alloc: Global,
+    file: &[u8],
+    header: &FileHeader,
+    table: Option<SectionHeader>,
+    headers: &[ProgramHeader],
+) -> Result<Vec<Function>, AllocError>
+    requires header { header.now ≡ file_header file.now }
+    requires tables { has_tables header.now (length file.now) ≡ true }
+    requires table { table ≡ symbol_table file.now }
+    requires good { are_bad_symbols file.now ≡ false }
+    ensures { IfOk result (λ found. found.items ≡ functions file.now headers.now) }
+{
+    match table {
+        Some(table) => table_functions(alloc, file, header, &table, headers),
+        None => Ok(Vec::new(alloc)),
+    }
 }

@@ -1,5 +1,5 @@
 // The tests of the file header.
-ghost use Rattle.std.specs.Prelude.{◌≡◌, ◌≤◌, length};
+ghost use Rattle.std.specs.Prelude.{◌≡◌, ◌≤◌, true, length, IfNone};
 ghost use Rattle.elf_load.specs.Tests.{first_fault, identification_tests, header_tests, has_unsupported_flags, has_header_sizes, has_tables};
 
 use crate::fault::ElfFault;
@@ -21,7 +21,8 @@ const MAX_PROGRAM_HEADERS: u16 = 32;
 
 /// The first fault of the bytes that say what kind of file it is.
 pub fn identification_fault(file: &[u8]) -> Option<ElfFault>
-    ensures { result ≡ first_fault (identification_tests file.now) }
+    ensures first { result ≡ first_fault (identification_tests file.now) }
+    ensures long { IfNone result (52 ≤ length file.now) }
 {
     if file.len() < FILE_HEADER {
         return Some(ElfFault::TooShort);
@@ -37,7 +38,9 @@ pub fn identification_fault(file: &[u8]) -> Option<ElfFault>
 
 /// The first fault of the file header, in a file of `size` bytes.
 pub fn header_fault(header: &FileHeader, size: usize) -> Option<ElfFault>
-    ensures { result ≡ first_fault (header_tests header.now size) }
+    ensures first { result ≡ first_fault (header_tests header.now size) }
+    ensures few { IfNone result (header.now.program_header_count ≤ 32) }
+    ensures tables { IfNone result (has_tables header.now size ≡ true) }
 {
     if header.file_type != 2 {
         return Some(ElfFault::NotExec);

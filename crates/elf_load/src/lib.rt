@@ -5,6 +5,7 @@ ghost use Rattle.std.specs.Prelude.{◌≡◌, ◌<◌, ◌^◌, IfOk, length};
 ghost use Rattle.std.specs.Bool.{OnTrue};
 ghost use Rattle.elf_load.specs.Form.{header_of, image_of, is_accepted};
 
+pub mod elf;
 pub mod fault;
 mod fields;
 mod functions;

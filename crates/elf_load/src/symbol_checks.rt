@@ -2,7 +2,7 @@
 ghost use Rattle.std.specs.Prelude.{◌≡◌, ℕ, ◌==◌, nat_lt, true, false, length, drop};
 ghost use Rattle.std.specs.List.{list_any};
 ghost use Rattle.elf_load.specs.Header.{file_header, section};
-ghost use Rattle.elf_load.specs.Symbols.{section_ends_past_file, section_bytes, symbols, is_function, is_unnamed, is_malformed_table, are_malformed_names, is_bad_table};
+ghost use Rattle.elf_load.specs.Symbols.{section_ends_past_file, section_bytes, symbols, is_function, is_unnamed, is_malformed_table, are_malformed_names, is_bad_table, symbol_table, are_bad_symbols};
 ghost use Rattle.elf_load.specs.Tests.{has_tables};
 
 use crate::fields::{FileHeader, SectionHeader, Symbol, symbol_at};
@@ -86,8 +86,8 @@ fn is_any_unnamed(file: &[u8], table: &SectionHeader, names: &[u8]) -> bool
     false
 }
 
-/// Whether the table, its names or the name of a function is malformed.
-pub fn is_bad_table(file: &[u8], header: &FileHeader, table: &SectionHeader) -> bool
+// Whether the table, its names or the name of a function is malformed.
+fn is_bad_table(file: &[u8], header: &FileHeader, table: &SectionHeader) -> bool
     requires header { header.now ≡ file_header file.now }
     requires tables { has_tables header.now (length file.now) ≡ true }
     ensures { result ≡ is_bad_table file.now table.now }
@@ -100,4 +100,18 @@ pub fn is_bad_table(file: &[u8], header: &FileHeader, table: &SectionHeader) -> 
         return true;
     }
     is_any_unnamed(file, table, section_bytes(file, &strings))
+}
+
+/// Whether the file's symbol table, if it has one, is bad.
+#[tactic(auto, unfolding(crate::specs::Symbols::are_bad_symbols))]
+pub fn are_bad_symbols(file: &[u8], header: &FileHeader, table: Option<SectionHeader>) -> bool
+    requires header { header.now ≡ file_header file.now }
+    requires tables { has_tables header.now (length file.now) ≡ true }
+    requires table { table ≡ symbol_table file.now }
+    ensures { result ≡ are_bad_symbols file.now }
+{
+    match table {
+        Some(table) => is_bad_table(file, header, &table),
+        None => false,
+    }
 }
