@@ -1,6 +1,6 @@
 -- What searches of the program header table find.
-use Rattle.std.proofs.Common.{cond, refl, [], ◌∷◌, ◌≡◌, ◌≤◌, ◌<◌, ◌+◌, ℕ, List, length, get_or, true, false, take, ap, sym, ◌∙◌, arith, zero-add}
-use Rattle.std.specs.Prelude.{if◌then◌else◌, Option, Some, None, nat_lt, sum_by, filter, Bool, find, slice_get}
+use Rattle.std.proofs.Common.{cond, refl, [], ◌∷◌, ◌≡◌, ◌≤◌, ◌<◌, ◌+◌, ℕ, List, length, get_or, true, false, take, ap, ◌∙◌, arith, zero-add}
+use Rattle.std.specs.Prelude.{if◌then◌else◌, Some, None, sum_by, filter, Bool, find, slice_get}
 use Rattle.std.specs.List.{enumerate_from, position_or_len}
 use Rattle.std.proofs.lemmas.Bool.Decides.{nat_tests}
 use Rattle.std.proofs.lemmas.List.FromFn.{get_or-enumerate_from, length-enumerate_from}

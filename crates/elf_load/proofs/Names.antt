@@ -1,5 +1,5 @@
 -- Names that have an end.
-use Rattle.std.proofs.Common.{◌≡◌, ◌≤◌, ◌<◌, ◌+◌, ◌-◌, ℕ, List, length, drop, get_or, true, false, refl, ap, sym, subst, ◌∙◌, arith, length-drop, inl, inr}
+use Rattle.std.proofs.Common.{◌≡◌, ◌≤◌, ◌<◌, ◌+◌, ◌-◌, ℕ, List, length, drop, get_or, true, false, ap, sym, subst, ◌∙◌, arith, length-drop, inl, inr}
 use Rattle.std.specs.Prelude.{Bool, ◌&&◌, ◌||◌, not, ◌==◌, nat_lt, nat_le}
 use Rattle.std.specs.List.{list_any}
 use Rattle.std.proofs.lemmas.Bool.{cases_Bool, or_parts}
@@ -26,15 +26,15 @@ ends_before names end at is =
     let within = is.within in
     elim (cases_Bool (nat_lt at end)) [
       | inl before ↦ (let lt : at < end = grind (arith, nat_tests) in
-        let j : ℕ = end - 1 - at in
-        let place : at + j ≡ end - 1 = omega arith in
-        list_any_at (λ byte. byte == 0) (drop at names) j 0 (omega arith)
-        (ap (λ b. b == 0) (here j) ∙ (ap (λ i. get_or names i 0 == 0) place ∙ is.last (omega arith)))
-        ∙ sym before)
+          let j : ℕ = end - 1 - at in
+          let place : at + j ≡ end - 1 = omega arith in
+          list_any_at (λ byte. byte == 0) (drop at names) j 0 (omega arith)
+          (ap (λ b. b == 0) (here j) ∙ (ap (λ i. get_or names i 0 == 0) place ∙ is.last (omega arith)))
+          ∙ sym before)
       | inr after ↦ (let le : end ≤ at = grind (arith, nat_tests) in
-        list_any_none (λ byte. byte == 0) (drop at names)
-        (All-from_get_or (λ byte. (byte == 0) ≡ false) (drop at names) 0 (λ j lt. ap (λ b. b == 0) (here j) ∙ is.past (at + j) (omega arith) (omega arith)))
-        ∙ sym after)
+          list_any_none (λ byte. byte == 0) (drop at names)
+          (All-from_get_or (λ byte. (byte == 0) ≡ false) (drop at names) 0 (λ j lt. ap (λ b. b == 0) (here j) ∙ is.past (at + j) (omega arith) (omega arith)))
+          ∙ sym after)
     ]
 
 -- a function whose name begins behind the last zero byte, and a symbol that is none

@@ -1,20 +1,20 @@
 -- What is known of the segments of a file that passes the tests.
-use Rattle.std.proofs.Common.{◌≡◌, ◌<◌, ◌≤◌, ◌+◌, ◌-◌, ◌^◌, ℕ, List, [], ◌∷◌, length, get_or, take, drop, map, true, false, refl, sym, ap, subst, ◌∙◌, arith}
-use Rattle.std.specs.Prelude.{Bool, ◌&&◌, ◌||◌, not, Option, None, Some, All, filter, position, nat_lt, slice_range}
+use Rattle.std.proofs.Common.{◌≡◌, ◌≤◌, ◌+◌, ◌-◌, ◌^◌, ℕ, List, [], ◌∷◌, length, get_or, drop, map, true, false, refl, sym, ap, ◌∙◌, arith}
+use Rattle.std.specs.Prelude.{Bool, ◌&&◌, not, Option, None, Some, All, filter, nat_lt}
 use Rattle.std.specs.List.{position_or_len, list_any}
 use Rattle.std.specs.Map.{values_of}
 use Rattle.std.specs.Ordering.{nat_cmp}
 use Rattle.std.proofs.lemmas.Bool.{or_parts}
 use Rattle.std.proofs.lemmas.Bool.Decides.{nat_tests}
 use Rattle.std.proofs.lemmas.List.{length-take}
-use Rattle.std.proofs.lemmas.List.Elements.{All-filter, All-map, All-nil, All-head, All-tail, filter_passes}
+use Rattle.std.proofs.lemmas.List.Elements.{All-filter, All-map, All-head, All-tail, filter_passes}
 use Rattle.std.proofs.lemmas.List.Sums.{fails_before_first}
 use Rattle.std.proofs.lemmas.Map.Views.{All-values-insert_entry}
 use Rattle.elf_load.specs.declared.fault.ElfFault.{ElfFault}
 use Rattle.elf_load.specs.declared.fault.ElfFault.TheVariants.{Interpreter, SegmentOutOfFile, BadSegment, SharedPage, WritableCode, OutsideUser, TooManyPages, BadEntry}
 use Rattle.elf_load.specs.declared.fields.ProgramHeader.{ProgramHeader}
 use Rattle.elf_load.specs.Elf.{in_order, segment_of}
-use Rattle.elf_load.specs.Image.{SegmentFields, IsSegment}
+use Rattle.elf_load.specs.Image.{IsSegment}
 use Rattle.elf_load.specs.Symbols.{by_address}
 use Rattle.elf_load.specs.Tests.{first_fault, at_first, where_it, segment_tests, first_segment, first_sharing, are_too_many_pages, is_entry, is_dynamic, is_segment, can_write, can_execute, ends_past_file, is_malformed, is_outside_user}
 

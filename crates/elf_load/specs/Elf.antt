@@ -1,5 +1,5 @@
 -- What a file loads to: the first fault of its tests, or its image.
-use Rattle.std.specs.Prelude.{ℕ, ◌+◌, ◌-◌, ◌*◌, nat_le, Bool, ◌&&◌, List, [], ◌∷◌, ◌++◌, length, map, filter, find, slice_range, bit_and, Option, Some, None}
+use Rattle.std.specs.Prelude.{ℕ, ◌+◌, ◌-◌, ◌*◌, nat_le, Bool, ◌&&◌, List, [], ◌∷◌, ◌++◌, length, map, filter, find, slice_range, bit_and, Option}
 use Rattle.std.specs.Map.{values_of}
 use Rattle.std.specs.Option.{option_map_or}
 use Rattle.elf_load.specs.declared.fields.FileHeader.{FileHeader}

@@ -1,7 +1,7 @@
 -- The headers of an ELF file of 32 bits, in the terms of the System V ABI: chapter 4, "Object Files" (file
 -- header, sections, symbol table), and chapter 5, "Program Loading and Dynamic Linking" (program headers).
 -- A field past the end of the file reads as zeros.
-use Rattle.std.specs.Prelude.{ℕ, ◌+◌, ◌*◌, ◌/◌, ◌%◌, List, map, drop, slice_index}
+use Rattle.std.specs.Prelude.{ℕ, ◌+◌, ◌*◌, ◌%◌, List, map, drop, slice_index}
 use Rattle.std.specs.List.{range_with_len}
 use Rattle.byteorder.specs.Endian.{little_number}
 use Rattle.elf_load.specs.declared.fields.FileHeader.{FileHeader}

@@ -1,6 +1,6 @@
 -- The tests that a file must pass before it is loaded, in the terms of the System V ABI, chapters 4 and 5,
 -- and of the RISC-V ELF psABI, "File Header". Sums are exact: they do not wrap at 2^32.
-use Rattle.std.specs.Prelude.{ℕ, ◌+◌, ◌-◌, ◌*◌, ◌/◌, ◌%◌, ◌==◌, nat_eq, nat_lt, nat_le, Bool, ◌&&◌, ◌||◌, not, if◌then◌else◌, List, [], ◌∷◌, ◌++◌, length, take, slice_index, bit_and, Option, Some, None, filter, sum_by, position}
+use Rattle.std.specs.Prelude.{ℕ, ◌+◌, ◌-◌, ◌*◌, ◌/◌, ◌%◌, ◌==◌, nat_eq, nat_lt, nat_le, Bool, ◌&&◌, ◌||◌, not, if◌then◌else◌, List, [], ◌∷◌, length, take, slice_index, bit_and, Option, Some, None, filter, sum_by, position}
 use Rattle.std.specs.List.{starts_with, list_any, enumerate_from}
 use Rattle.std.specs.Int.{is_power_of_two}
 use Rattle.elf_load.specs.declared.fields.FileHeader.{FileHeader}
@@ -96,7 +96,7 @@ abbrev pub is_malformed : ProgramHeader → Bool
 is_malformed header =
     nat_lt header.memory_size header.file_size
     || (nat_lt 1 header.alignment
-        && (not (is_power_of_two header.alignment) || not (header.address % header.alignment == header.offset % header.alignment)))
+    && (not (is_power_of_two header.alignment) || not (header.address % header.alignment == header.offset % header.alignment)))
 
 -- the numbers of a segment's first and last page, and how many pages it is in
 abbrev pub first_page : ProgramHeader → ℕ

@@ -56,11 +56,7 @@ fn name_at(alloc: Global, names: &[u8], at: u32) -> Result<Vec<u8>, AllocError>
 }
 
 // The functions of these entries.
-fn named(
-    alloc: Global,
-    names: &[u8],
-    entries: &[(u32, u32)],
-) -> Result<Vec<Function>, AllocError>
+fn named(alloc: Global, names: &[u8], entries: &[(u32, u32)]) -> Result<Vec<Function>, AllocError>
     ensures { IfOk result (λ functions. functions.items ≡ map (function_named names.now) entries.now) }
 {
     let mut functions = Vec::new(alloc);

@@ -7,7 +7,9 @@ use crate::fields::FileHeader;
 
 // The bytes of a file header, of a program header and of a section header.
 pub const FILE_HEADER: usize = 52;
+
 pub const PROGRAM_HEADER: usize = 32;
+
 pub const SECTION_HEADER: usize = 40;
 
 // EM_RISCV
@@ -76,7 +78,8 @@ fn has_header_sizes(header: &FileHeader) -> bool
     header.program_header_size as usize == PROGRAM_HEADER
         && header.program_header_count >= 1
         && header.program_header_count <= MAX_PROGRAM_HEADERS
-        && (header.section_header_count == 0 || header.section_header_size as usize == SECTION_HEADER)
+        && (header.section_header_count == 0
+            || header.section_header_size as usize == SECTION_HEADER)
 }
 
 // Whether both tables end in a file of `size` bytes.

@@ -6,6 +6,8 @@ ghost use Rattle.std.specs.Bool.{OnTrue};
 ghost use Rattle.elf_load.specs.Form.{header_of, image_of, is_accepted};
 
 pub mod elf;
+#[cfg(test)]
+mod elf_tests;
 pub mod fault;
 mod fields;
 mod functions;

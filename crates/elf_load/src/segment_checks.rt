@@ -10,6 +10,7 @@ const PAGE: u64 = 4096;
 
 // The pages of the stack, and the most pages that may be mapped.
 const STACK_PAGES: u64 = 256;
+
 const MAX_PAGES: u64 = 16_384;
 
 // Whether the program header asks for an interpreter or for dynamic linking: PT_INTERP or PT_DYNAMIC.
@@ -95,9 +96,7 @@ fn shares_page(others: &[ProgramHeader], header: &ProgramHeader) -> bool
     requires { is_segment header.now ≡ true }
     ensures { result ≡ shares_page others.now header.now }
 {
-    others
-        .iter()
-        .any(|other| is_segment(other) && have_page_in_common(other, header))
+    others.iter().any(|other| is_segment(other) && have_page_in_common(other, header))
 }
 
 // Whether the segment begins in the first page, or ends above 0x4000_0000.
@@ -113,9 +112,7 @@ fn first_out_of_file(size: usize, headers: &[ProgramHeader]) -> Option<usize>
     ensures first { result ≡ first_segment (ends_past_file size) headers.now }
     ensures below { IfSome result (λ k. k < length headers.now) }
 {
-    headers
-        .iter()
-        .position(|header| is_segment(header) && ends_past_file(size, header))
+    headers.iter().position(|header| is_segment(header) && ends_past_file(size, header))
 }
 
 // The first segment that is malformed.
@@ -148,9 +145,8 @@ fn first_writable_code(headers: &[ProgramHeader]) -> Option<usize>
     ensures first { result ≡ first_segment (λ header. can_write header && can_execute header) headers.now }
     ensures below { IfSome result (λ k. k < length headers.now) }
 {
-    headers
-        .iter()
-        .position(|header| is_segment(header) && (can_write(header) && can_execute(header)))
+    headers.iter().position(|header| is_segment(header)
+        && (can_write(header) && can_execute(header)))
 }
 
 // The first segment that is not in the user's memory.

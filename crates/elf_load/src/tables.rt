@@ -4,7 +4,9 @@ ghost use Rattle.elf_load.specs.Header.{file_header, program_headers, section};
 ghost use Rattle.elf_load.specs.Symbols.{symbol_table};
 ghost use Rattle.elf_load.specs.Tests.{has_tables};
 
-use crate::fields::{FileHeader, ProgramHeader, SectionHeader, program_header_at, section_header_at};
+use crate::fields::{
+    FileHeader, ProgramHeader, SectionHeader, program_header_at, section_header_at,
+};
 use crate::header_checks::{PROGRAM_HEADER, SECTION_HEADER};
 use std::alloc::{AllocError, Global};
 
@@ -37,7 +39,10 @@ pub fn section(file: &[u8], header: &FileHeader, k: usize) -> SectionHeader
     requires index { k < header.now.section_header_count }
     ensures { result ≡ section file.now k }
 {
-    section_header_at(file, header.section_headers_at as usize + SECTION_HEADER * k)
+    section_header_at(
+        file,
+        header.section_headers_at as usize + SECTION_HEADER * k,
+    )
 }
 
 /// The header of the first section that is a symbol table, if there is one.

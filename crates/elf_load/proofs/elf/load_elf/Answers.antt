@@ -1,4 +1,4 @@
-use Rattle.std.proofs.Common.{◌≡◌, inr, sym, ◌∙◌}
+use Rattle.std.proofs.Common.{inr, ◌∙◌}
 use Rattle.elf_load.proofs.Refused.{by_identification, by_header, by_segments, by_symbols, by_none, few_headers}
 use Rattle.elf_load.proofs.elf.load_elf.Goals as goal
 
@@ -26,8 +26,9 @@ returns-then-are_bad_symbols c =
     c.are_bad_symbols.result c.in_default-segment_fault.ensures c.are_bad_symbols.ensures c.if-are_bad_symbols.true)
 
 pub returns : goal.returns
-returns c =
-    (by_none c.args.file.now c.file_header-header.result c.file_header-header.ensures c.in_default.ensures.first
-    c.deref.result.now (c.deref.ensures.value ∙ c.in_ok-headers.ensures) c.in_default-header_fault.ensures.first
-    c.are_bad_symbols.result c.in_default-segment_fault.ensures c.are_bad_symbols.ensures c.if-are_bad_symbols.false,
-    c.in_ok-image.ensures)
+returns c = (
+  by_none c.args.file.now c.file_header-header.result c.file_header-header.ensures c.in_default.ensures.first
+      c.deref.result.now (c.deref.ensures.value ∙ c.in_ok-headers.ensures) c.in_default-header_fault.ensures.first
+      c.are_bad_symbols.result c.in_default-segment_fault.ensures c.are_bad_symbols.ensures c.if-are_bad_symbols.false,
+  c.in_ok-image.ensures,
+)

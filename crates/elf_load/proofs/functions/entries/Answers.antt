@@ -1,4 +1,4 @@
-use Rattle.std.proofs.Common.{◌≡◌, ◌+◌, ◌-◌, ◌/◌, sym, ap, subst, ◌∙◌, arith}
+use Rattle.std.proofs.Common.{◌≡◌, ◌+◌, ◌-◌, ◌/◌, sym, ap, ◌∙◌, arith}
 use Rattle.elf_load.specs.Symbols.{symbols}
 use Rattle.elf_load.proofs.Entries.{entries_from, entry_is, entry_kept, none_left}
 use Rattle.elf_load.proofs.functions.entries.Goals as goal

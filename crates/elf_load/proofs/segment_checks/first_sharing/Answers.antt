@@ -1,5 +1,5 @@
-use Rattle.std.proofs.Common.{arith, ◌≡◌, ◌&&◌, true, ap, sym, ◌∙◌, get_or}
-use Rattle.elf_load.specs.Tests.{is_segment, shares_page, is_sharing}
+use Rattle.std.proofs.Common.{arith, ◌≡◌, true, get_or}
+use Rattle.elf_load.specs.Tests.{is_sharing}
 use Rattle.elf_load.proofs.Found.{no_header, sharing_found, sharing_none}
 use Rattle.elf_load.proofs.segment_checks.first_sharing.Goals as goal
 

@@ -1,5 +1,5 @@
 use Rattle.std.proofs.Common.{arith}
-use Rattle.elf_load.proofs.Names.{EndsAt, ends_before}
+use Rattle.elf_load.proofs.Names.{ends_before}
 use Rattle.elf_load.proofs.symbol_checks.names_end.Goals as goal
 
 pub returns : goal.returns

@@ -1,4 +1,4 @@
-use Rattle.std.proofs.Common.{◌≡◌, ◌<◌, ℕ, sym, ap, subst, ◌∙◌, refl, arith, true, false, eq-eqb}
+use Rattle.std.proofs.Common.{◌≡◌, ◌<◌, ℕ, sym, ap, subst, ◌∙◌, arith, false, eq-eqb}
 use Rattle.std.specs.Prelude.{◌==◌, Some}
 use Rattle.elf_load.specs.declared.fields.FileHeader.{FileHeader}
 use Rattle.elf_load.specs.declared.fields.SectionHeader.{SectionHeader}
