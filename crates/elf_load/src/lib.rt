@@ -5,7 +5,18 @@ ghost use Rattle.std.specs.Prelude.{◌≡◌, ◌<◌, ◌^◌, IfOk, length};
 ghost use Rattle.std.specs.Bool.{OnTrue};
 ghost use Rattle.elf_load.specs.Form.{header_of, image_of, is_accepted};
 
+pub mod elf;
+#[cfg(test)]
+mod elf_tests;
+pub mod fault;
+mod fields;
+mod functions;
+mod header_checks;
 pub mod image;
+mod segment_checks;
+mod segments;
+mod symbol_checks;
+mod tables;
 #[cfg(test)]
 mod tests;
 

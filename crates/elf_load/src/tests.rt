@@ -4,14 +4,14 @@ use std::alloc::{AllocError, Global};
 use std::test::Fail;
 
 // exit(7): the file header's 13 words, the program header's 8, then `li a7, 93`, `li a0, 7`, `ecall`.
-const EXIT_7: [u32; 24] = [
+pub const EXIT_7: [u32; 24] = [
     0x464c457f, 0x00010101, 0x00000000, 0x00000000, 0x00f30002, 0x00000001, 0x00010054, 0x00000034,
     0x00000000, 0x00000000, 0x00200034, 0x00280001, 0x00000000, 0x00000001, 0x00000000, 0x00010000,
     0x00010000, 0x00000060, 0x00000060, 0x00000005, 0x00001000, 0x05d00893, 0x00700513, 0x00000073,
 ];
 
 // The bytes of these words, lowest first.
-fn bytes_of(alloc: Global, words: &[u32]) -> Result<Vec<u8>, AllocError> {
+pub fn bytes_of(alloc: Global, words: &[u32]) -> Result<Vec<u8>, AllocError> {
     let mut bytes = Vec::new(alloc);
     for word in words {
         bytes.extend_from_slice(&word.to_le_bytes())?;

@@ -1,0 +1,7 @@
+use Rattle.std.proofs.Common.{◌≡◌, map, take}
+use Rattle.elf_load.specs.Symbols.{function_named}
+use Rattle.elf_load.proofs.functions.named.Given as goal
+
+-- the functions so far
+abbrev pub invariant-loop-start : goal.invariant-loop-start
+invariant-loop-start l = l.functions.items ≡ map (function_named l.names) (take l.start-index l.entries)
