@@ -5,5 +5,7 @@ mod Made
 mod Names
 mod Order
 mod Passed
+mod Placed
 mod Refused
 mod Search
+mod Whole

@@ -39,31 +39,49 @@ none_fails test headers none k d lt is =
     let fails : p (get_or headers k d) ≡ false = fails_before_first p headers k d (omega arith) in
     ap (λ (b : Bool). b && test (get_or headers k d)) (sym is) ∙ fails
 
--- the tests of single segments
-pub record Passed (size : ℕ) (headers : List ProgramHeader) : Type 0 where
+no_fault : (test : Bool) (fault : ElfFault) → where_it test fault ≡ None → test ≡ false
+no_fault true fault is = cc
+no_fault false fault is = refl
+
+passes : (test : Bool) → not test ≡ false → test ≡ true
+passes true is = refl
+passes false is = cc
+
+-- what the tests of the segments say
+pub record Passed (size entry : ℕ) (headers : List ProgramHeader) : Type 0 where
   pub in_file : Holds (ends_past_file size) headers
   pub formed : Holds is_malformed headers
+  pub sharing : first_sharing headers ≡ None
+  pub fixed : Holds (λ header. can_write header && can_execute header) headers
   pub inside : Holds is_outside_user headers
+  pub pages : are_too_many_pages headers ≡ false
+  pub enters : is_entry entry headers ≡ true
 
-three_none : (a b c : Option ElfFault) (rest : List (Option ElfFault)) → first_fault (a ∷ b ∷ c ∷ rest) ≡ None → (b ≡ None) × (c ≡ None) × (first_fault rest ≡ None)
+three_none : (a b c : Option ElfFault) (rest : List (Option ElfFault)) → first_fault (a ∷ b ∷ c ∷ rest) ≡ None → (a ≡ None) × (b ≡ None) × (c ≡ None) × (first_fault rest ≡ None)
 three_none a b c rest is =
     let two = none_of a (b ∷ c ∷ rest) is in
     let three = none_of b (c ∷ rest) two.1 in
     let four = none_of c rest three.1 in
-    (three.0, four.0, four.1)
+    (two.0, three.0, four.0, four.1)
 
-pub passed : (size entry : ℕ) (headers : List ProgramHeader) → None ≡ first_fault (segment_tests size entry headers) → Passed size headers
+pub passed : (size entry : ℕ) (headers : List ProgramHeader) → None ≡ first_fault (segment_tests size entry headers) → Passed size entry headers
 passed size entry headers is =
-    let late : List (Option ElfFault) = where_it (are_too_many_pages headers) TooManyPages ∷ where_it (not (is_entry entry headers)) BadEntry ∷ [] in
+    let pages = where_it (are_too_many_pages headers) TooManyPages in
+    let start = where_it (not (is_entry entry headers)) BadEntry in
     let sharing = at_first (first_sharing headers) SharedPage in
     let writable = at_first (first_segment (λ header. can_write header && can_execute header) headers) WritableCode in
     let outside = at_first (first_segment is_outside_user headers) OutsideUser in
-    let early = three_none (where_it (list_any is_dynamic headers) Interpreter) (at_first (first_segment (ends_past_file size) headers) SegmentOutOfFile) (at_first (first_segment is_malformed headers) BadSegment) (sharing ∷ writable ∷ outside ∷ late) (sym is) in
-    let middle = three_none sharing writable outside late early.2 in
+    let early = three_none (where_it (list_any is_dynamic headers) Interpreter) (at_first (first_segment (ends_past_file size) headers) SegmentOutOfFile) (at_first (first_segment is_malformed headers) BadSegment) (sharing ∷ writable ∷ outside ∷ pages ∷ start ∷ []) (sym is) in
+    let middle = three_none sharing writable outside (pages ∷ start ∷ []) early.3 in
+    let late = none_of pages (start ∷ []) middle.3 in
     record {
-      in_file = none_fails (ends_past_file size) headers (no_first (first_segment (ends_past_file size) headers) SegmentOutOfFile early.0);
-      formed = none_fails is_malformed headers (no_first (first_segment is_malformed headers) BadSegment early.1);
-      inside = none_fails is_outside_user headers (no_first (first_segment is_outside_user headers) OutsideUser middle.1);
+      in_file = none_fails (ends_past_file size) headers (no_first (first_segment (ends_past_file size) headers) SegmentOutOfFile early.1);
+      formed = none_fails is_malformed headers (no_first (first_segment is_malformed headers) BadSegment early.2);
+      sharing = no_first (first_sharing headers) SharedPage middle.0;
+      fixed = none_fails (λ header. can_write header && can_execute header) headers (no_first (first_segment (λ header. can_write header && can_execute header) headers) WritableCode middle.1);
+      inside = none_fails is_outside_user headers (no_first (first_segment is_outside_user headers) OutsideUser middle.2);
+      pages = no_fault (are_too_many_pages headers) TooManyPages late.0;
+      enters = passes (is_entry entry headers) (no_fault (not (is_entry entry headers)) BadEntry (none_of start [] late.1).0);
     }
 
 -- what holds of each entry holds of each in order of address
@@ -102,16 +120,16 @@ segment_is file header is formed inside =
     let bytes = length-take (header.offset + header.file_size - header.offset) (drop header.offset file) in
     record { some = grind (arith, nat_tests); above = place.0; below = place.1; fits = omega arith }
 
-pub segments_are : (file : List ℕ) (size : ℕ) (headers : List ProgramHeader) → Passed size headers → All IsSegment (map (segment_of file) (in_order headers))
-segments_are file size headers p =
+pub segments_are : (file : List ℕ) (size entry : ℕ) (headers : List ProgramHeader) → Passed size entry headers → All IsSegment (map (segment_of file) (in_order headers))
+segments_are file size entry headers p =
     All-map IsSegment (segment_of file) (in_order headers)
     (all_in_order (λ header. IsSegment (segment_of file header)) headers (λ k d lt is. segment_is file (get_or headers k d) is (p.formed k d lt is) (p.inside k d lt is)))
 
-pub ordered_in_file : (size : ℕ) (headers : List ProgramHeader) → Passed size headers → All (λ header. ends_past_file size header ≡ false) (in_order headers)
-ordered_in_file size headers p = all_in_order (λ header. ends_past_file size header ≡ false) headers p.in_file
+pub ordered_in_file : (size entry : ℕ) (headers : List ProgramHeader) → Passed size entry headers → All (λ header. ends_past_file size header ≡ false) (in_order headers)
+ordered_in_file size entry headers p = all_in_order (λ header. ends_past_file size header ≡ false) headers p.in_file
 
-pub addresses_fit : (size : ℕ) (headers : List ProgramHeader) → Passed size headers → All (λ segment. is_segment segment ≡ true → segment.address + segment.file_size ≤ 2 ^ 30) headers
-addresses_fit size headers p k d lt is =
+pub addresses_fit : (size entry : ℕ) (headers : List ProgramHeader) → Passed size entry headers → All (λ segment. is_segment segment ≡ true → segment.address + segment.file_size ≤ 2 ^ 30) headers
+addresses_fit size entry headers p k d lt is =
     let sizes = sizes_of (get_or headers k d) (p.formed k d lt is) in
     let place = place_of (get_or headers k d) (p.inside k d lt is) in
     omega (arith, place.1)

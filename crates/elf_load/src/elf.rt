@@ -1,5 +1,5 @@
 // The whole loader.
-ghost use Rattle.std.specs.Prelude.{◌≡◌, ◌⊎◌, true, false, None, Some, length, IfOk, MatchResult};
+ghost use Rattle.std.specs.Prelude.{◌≡◌, ◌≤◌, ◌⊎◌, true, false, None, Some, length, IfOk, MatchResult};
 ghost use Rattle.elf_load.specs.Elf.{refusal_of, image_of_elf};
 ghost use Rattle.elf_load.specs.Header.{file_header, program_headers};
 ghost use Rattle.elf_load.specs.Symbols.{symbol_table, are_bad_symbols};
@@ -28,6 +28,7 @@ fn image(
     requires header { header.now ≡ file_header file.now }
     requires headers { headers.now ≡ program_headers file.now }
     requires table { table ≡ symbol_table file.now }
+    requires few { header.now.program_header_count ≤ 32 }
     requires tables { has_tables header.now (length file.now) ≡ true }
     requires passed { None ≡ first_fault (segment_tests (length file.now) header.now.entry headers.now) }
     requires good { are_bad_symbols file.now ≡ false }

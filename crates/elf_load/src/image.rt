@@ -48,19 +48,19 @@ pub struct Image {
     pub phdr: u32,
     /// The number of entries of the program header table.
     pub phnum: u16,
-    /// The segments. Each has 1 byte or more, from 0x1000 to below 0x4000_0000.
+    /// The segments, at most 32, in order of address. Each has 1 byte or more, from 0x1000 to below
+    /// 0x4000_0000, and no page in common with another.
     pub segments: Vec<Segment>,
-    /// The functions of the symbol table.
+    /// The functions in code, in order of address, one at each.
     pub functions: Vec<Function>,
 }
 
 impl Model for Image {
-    ghost use Rattle.std.specs.Prelude.{All};
-    ghost use Rattle.elf_load.specs.Image.{ImageFields, IsSegment};
+    ghost use Rattle.elf_load.specs.Image.{ImageFields, IsImage};
 
     ghost Value = { ImageFields };
 
     ghost view = { λ i. record { entry = i.entry; phdr = i.phdr; phnum = i.phnum; segments = i.segments.items; functions = i.functions.items } };
 
-    ghost invariant = { λ i. All IsSegment i.segments.items };
+    ghost invariant = { λ i. IsImage (record { entry = i.entry; phdr = i.phdr; phnum = i.phnum; segments = i.segments.items; functions = i.functions.items }) };
 }

@@ -5,7 +5,7 @@ use Rattle.rv_machine.proofs.guest.Guest.load.Goals as goal
 
 pub with_file-requires : goal.with_file-requires
 with_file-requires c =
-    subst (λ (xs : List ℕ). length xs ≤ 2 ^ 30) (sym (c.in_ok-bytes.ensures ∙ ap first_bytes c.deref.ensures.value)) (length-first_bytes c.image.inside.segments.items c.image.invariant)
+    subst (λ (xs : List ℕ). length xs ≤ 2 ^ 30) (sym (c.in_ok-bytes.ensures ∙ ap first_bytes c.deref.ensures.value)) (length-first_bytes c.image.inside.segments.items c.image.invariant.segments)
 
 pub returns-clause-ok : goal.returns-clause-ok
 returns-clause-ok c =
