@@ -1,4 +1,3 @@
-pub mod Accepted
 mod Entries
 mod Found
 mod Made

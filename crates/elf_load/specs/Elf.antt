@@ -44,8 +44,8 @@ unfoldable pub table_address : FileHeader → List ProgramHeader → ℕ
 table_address file headers = option_map_or (λ header. header.address + (file.program_headers_at - header.offset)) (find (holds_table file) headers) 0
 
 -- the image of a file that passes the tests
-unfoldable pub image_of_elf : List ℕ → ImageFields
-image_of_elf file = record {
+unfoldable pub image_of : List ℕ → ImageFields
+image_of file = record {
   entry = (file_header file).entry;
   phdr = table_address (file_header file) (program_headers file);
   phnum = (file_header file).program_header_count;

@@ -1,5 +1,4 @@
 pub mod Elf
-pub mod Form
 pub mod Header
 pub mod Image
 pub mod Symbols

@@ -1,6 +1,6 @@
 // The whole loader.
 ghost use Rattle.std.specs.Prelude.{◌≡◌, ◌≤◌, ◌⊎◌, true, false, None, Some, length, IfOk, MatchResult};
-ghost use Rattle.elf_load.specs.Elf.{refusal_of, image_of_elf};
+ghost use Rattle.elf_load.specs.Elf.{refusal_of, image_of};
 ghost use Rattle.elf_load.specs.Header.{file_header, program_headers};
 ghost use Rattle.elf_load.specs.Symbols.{symbol_table, are_bad_symbols};
 ghost use Rattle.elf_load.specs.Tests.{first_fault, segment_tests, has_tables};
@@ -32,7 +32,7 @@ fn image(
     requires tables { has_tables header.now (length file.now) ≡ true }
     requires passed { None ≡ first_fault (segment_tests (length file.now) header.now.entry headers.now) }
     requires good { are_bad_symbols file.now ≡ false }
-    ensures { IfOk result (λ image. image ≡ image_of_elf file.now) }
+    ensures { IfOk result (λ image. image ≡ image_of file.now) }
 {
     let ordered = in_order(alloc, headers)?;
     Ok(Image {
@@ -49,9 +49,9 @@ fn image(
 /// # Errors
 /// The first test of [`ElfFault`], in its order, that the file fails; `NoMemory` where there is no memory for
 /// the image.
-pub fn load_elf(alloc: Global, file: &[u8]) -> Result<Image, ElfFault>
+pub fn load(alloc: Global, file: &[u8]) -> Result<Image, ElfFault>
     ensures { MatchResult result
-        (λ image. (refusal_of file.now ≡ None) × (image ≡ image_of_elf file.now))
+        (λ image. (refusal_of file.now ≡ None) × (image ≡ image_of file.now))
         (λ fault. (fault ≡ ElfFault.NoMemory) ⊎ (refusal_of file.now ≡ Some fault)) }
 {
     if let Some(fault) = identification_fault(file) {

@@ -9,7 +9,7 @@ use Rattle.elf_load.proofs.Made.{made, image_is}
 use Rattle.elf_load.proofs.Passed.{passed, ordered_in_file, addresses_fit}
 use Rattle.elf_load.proofs.Refused.{few_headers}
 use Rattle.elf_load.proofs.Whole.{whole}
-use Rattle.elf_load.proofs.elf.image.Goals as goal
+use Rattle.elf_load.proofs.loader.image.Goals as goal
 
 pub table_address-requires : goal.table_address-requires
 table_address-requires c =

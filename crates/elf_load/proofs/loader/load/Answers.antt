@@ -1,6 +1,6 @@
 use Rattle.std.proofs.Common.{inr, ◌∙◌}
 use Rattle.elf_load.proofs.Refused.{by_identification, by_header, by_segments, by_symbols, by_none, few_headers}
-use Rattle.elf_load.proofs.elf.load_elf.Goals as goal
+use Rattle.elf_load.proofs.loader.load.Goals as goal
 
 pub returns-in-Some : goal.returns-in-Some
 returns-in-Some c = inr (by_identification c.args.file.now c.in-Some.fault c.in-Some.ensures.first)
