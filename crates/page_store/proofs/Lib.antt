@@ -3,3 +3,4 @@ pub mod Kept
 pub mod Marks
 pub mod Room
 pub mod Rules
+pub mod Vacated

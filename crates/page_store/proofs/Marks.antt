@@ -1,7 +1,7 @@
 -- How many pages are marked.
 use Rattle.std.proofs.Common.{◌≡◌, ℕ, zero, suc, ◌+◌, ◌<◌, ◌≤◌, ◌⊎◌, Bool, true, false, cond, List, [], ◌∷◌, length, get_or, refl, sym, ap, ◌∙◌, inl, inr, get_or-set_same, get_or-set_other, arith}
 use Rattle.std.proofs.Math.ListN.{set}
-use Rattle.std.proofs.lemmas.Bool.{cases_eq, cases_lt}
+use Rattle.std.proofs.lemmas.Bool.{cases_eq, cases_lt, true≢false}
 use Rattle.std.proofs.lemmas.List.{get_or_past}
 use Rattle.std.specs.List.{sum_by}
 use Rattle.std.proofs.lemmas.List.Sums.{count_by-le-length, sum_by-set, sum_by-cons, get_or-le-sum_by}
@@ -70,4 +70,25 @@ none_marked marks none page =
     elim (cases_lt page (length marks)) [
       | inl lt ↦ counted_there (get_or marks page false) (omega (arith, none, get_or-le-sum_by (λ (b : Bool). cond {A = ℕ} b 1 0) marks page false lt))
       | inr ge ↦ get_or_past marks page false ge
+    ]
+
+-- a page less is marked
+pub count_marked-clear : (marks : List Bool) (page : ℕ) → page < length marks → get_or marks page false ≡ true → count_marked (set marks page false) + 1 ≡ count_marked marks
+unfolding count_marked
+count_marked-clear marks page lt some =
+    let here = sum_by-set (λ (b : Bool). cond b 1 0) marks page false false lt in
+    let one_here : cond {A = ℕ} (get_or marks page false) 1 0 ≡ 1 = ap (λ (b : Bool). cond b 1 0) some in
+    omega (arith, here, one_here)
+
+-- a page that is not marked anyway
+pub set_unmarked : (marks : List Bool) (page : ℕ) → get_or marks page false ≡ false → set marks page false ≡ marks
+set_unmarked [] page h = refl
+set_unmarked (x ∷ xs) zero h = ap (λ b. b ∷ xs) (sym h)
+set_unmarked (x ∷ xs) (suc page) h = ap (λ l. x ∷ l) (set_unmarked xs page h)
+
+pub marked_in_clear : (marks : List Bool) (page q : ℕ) → page < length marks → get_or (set marks page false) q false ≡ true → (q ≡ page → ⊥) × (get_or marks q false ≡ true)
+marked_in_clear marks page q lt h =
+    elim (cases_eq q page) [
+      | inl e ↦ absurd (true≢false (sym h ∙ ap (λ k. get_or (set marks page false) k false) e ∙ get_or-set_same marks page false false lt))
+      | inr ne ↦ (ne, sym (get_or-set_other marks page q false false ne) ∙ h)
     ]

@@ -31,6 +31,8 @@ same_table p q table owners bytes is = record {
   table_len = ap length table ∙ is.table_len;
   bytes_len = ap length bytes ∙ is.bytes_len ∙ ap (λ (l : List ℕ). 4096 * length l) (sym owners);
   few = omega (arith, ap length owners, is.few);
+  pages = λ i lt. rw owners (is.pages i (omega (arith, lt, ap length owners)));
+  back = λ i lt. rw (table, owners) (is.back i (omega (arith, lt, ap length owners)));
 }
 
 pub same_place : (p q : Places) (page : ℕ) → q.table.items ≡ p.table.items → q.owners.items ≡ p.owners.items → has_place_in p page ≡ true → has_place_in q page ≡ true

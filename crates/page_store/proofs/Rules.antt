@@ -1,12 +1,12 @@
 -- What the checks of `Pages` use.
-use Rattle.std.proofs.Common.{◌≡◌, ℕ, ◌+◌, ◌-◌, ◌^◌, ◌≤◌, false, sym, cond, List, length, get_or, ap, ◌∙◌, inl, inr, arith}
+use Rattle.std.proofs.Common.{◌≡◌, ℕ, ◌+◌, ◌-◌, ◌/◌, ◌^◌, ◌≤◌, ◌==◌, Bool, true, false, refl, sym, cond, List, length, get_or, ap, ◌∙◌, inl, inr, arith}
 use Rattle.std.proofs.lemmas.Bool.{cases_lt, cond-false}
 use Rattle.std.proofs.lemmas.Bool.Decides.{nat_tests}
 use Rattle.std.proofs.lemmas.List.{get_or_past}
 use Rattle.page_store.specs.Contents.{flat, is_among}
 use Rattle.page_store.proofs.Flat.{get_or-flat, flat-same, length-flat, flat-empty, length-unmarked, get_or-unmarked}
 use Rattle.page_store.proofs.Kept.{has_place_tells}
-use Rattle.page_store.proofs.Marks.{count_marked-le, count_marked-set, count_marked-unmarked, count_marked-among, set_marked}
+use Rattle.page_store.proofs.Marks.{count_marked-le, count_marked-set, count_marked-unmarked, count_marked-among, set_marked, set_unmarked}
 
 pub flat-still : (f g : ℕ → ℕ) → ((q : ℕ) → g q ≡ f q) → flat g ≡ flat f
 flat-still f g is = flat-same f g (λ q _. is q)
@@ -27,4 +27,19 @@ flat-copied f g all source a e within is q =
           ∙ sym (cond-false (is_among a (length source) q) (get_or source (q - a) 0) (get_or all q 0) (past_end a (length source) q (omega arith)))
     ]
 
-pub ruleset flat_rules = (get_or-flat, flat-empty, length-unmarked, get_or-unmarked, length-flat, flat-still, flat-copied, has_place_tells, count_marked-le, count_marked-set, count_marked-unmarked, count_marked-among, set_marked)
+cleared_past : (b : Bool) → 0 ≡ cond {A = ℕ} b 0 0
+cleared_past true = refl
+cleared_past false = refl
+
+-- the bytes of a page are 0 from now on, seen as the list of all bytes
+pub flat-cleared : (f g : ℕ → ℕ) (all : List ℕ) (page : ℕ) → flat f ≡ all → ((q : ℕ) → g q ≡ cond (q / 4096 == page) 0 (f q)) → (q : ℕ) → get_or (flat g) q 0 ≡ cond (q / 4096 == page) 0 (get_or all q 0)
+flat-cleared f g all page e is q =
+    elim (cases_lt q (2 ^ 32)) [
+      | inl lt ↦ get_or-flat g q lt ∙ is q ∙ ap (cond (q / 4096 == page) 0) (sym (get_or-flat f q lt) ∙ ap (λ l. get_or l q 0) e)
+      | inr ge ↦
+          get_or_past (flat g) q 0 (omega (arith, length-flat g))
+          ∙ cleared_past (q / 4096 == page)
+          ∙ ap (cond (q / 4096 == page) 0) (sym (get_or_past all q 0 (omega (arith, ap length (sym e), length-flat f))))
+    ]
+
+pub ruleset flat_rules = (get_or-flat, flat-empty, length-unmarked, get_or-unmarked, length-flat, flat-still, flat-copied, flat-cleared, has_place_tells, count_marked-le, count_marked-set, count_marked-unmarked, count_marked-among, set_marked, set_unmarked)

@@ -1,5 +1,5 @@
 -- Where the bytes of a page are kept. Its entry in the table names its place, if that place names the page as its owner.
-use Rattle.std.specs.Prelude.{◌≡◌, ℕ, ◌+◌, ◌*◌, ◌/◌, ◌%◌, ◌^◌, ◌≤◌, Bool, ◌&&◌, ◌==◌, false, true, cond, List, length, nat_lt, slice_index, slice_index_or}
+use Rattle.std.specs.Prelude.{◌≡◌, ℕ, ◌+◌, ◌*◌, ◌/◌, ◌%◌, ◌^◌, ◌<◌, ◌≤◌, Bool, ◌&&◌, ◌==◌, false, true, cond, List, length, nat_lt, slice_index, slice_index_or}
 use Rattle.std.specs.Vec.{vec_capacity}
 use Rattle.page_store.specs.Contents.{count_marked}
 use Rattle.page_store.specs.declared.pages.Pages.TheInside.{Inside}
@@ -24,11 +24,13 @@ has_place_in p page = has_place p.table.items p.owners.items page
 abbrev pub pages_of : ℕ → ℕ → ℕ
 pages_of a n = (a % 4096 + n + 4095) / 4096
 
--- the table has an entry for each page, and each place has its bytes
+-- the table has an entry for each page, each place has its bytes, and each place's page names it
 pub record IsTable (p : Places) : Type 0 where
   pub table_len : length p.table.items ≡ 2 ^ 20
   pub bytes_len : length p.bytes.items ≡ 4096 * length p.owners.items
   pub few : length p.owners.items ≤ 2 ^ 20
+  pub pages : (i : ℕ) → i < length p.owners.items → slice_index p.owners.items i < 2 ^ 20
+  pub back : (i : ℕ) → i < length p.owners.items → slice_index p.table.items (slice_index p.owners.items i) ≡ i
 
 -- there is room for n more places
 pub record HasRoom (p : Places) (n : ℕ) : Type 0 where

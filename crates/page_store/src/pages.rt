@@ -1,5 +1,5 @@
 // Pages with frames.
-ghost use Rattle.std.specs.Prelude.{◌≡◌, ℕ, ◌+◌, ◌-◌, ◌*◌, ◌/◌, ◌%◌, ◌^◌, ◌<◌, ◌≤◌, ◌⊎◌, true, false, length, if◌then◌else◌, slice_index, slice_set, IfOk, MatchOption, OnOk, OnErr};
+ghost use Rattle.std.specs.Prelude.{◌≡◌, ℕ, ◌+◌, ◌-◌, ◌*◌, ◌/◌, ◌%◌, ◌^◌, ◌<◌, ◌≤◌, ◌⊎◌, ◌==◌, true, false, length, if◌then◌else◌, slice_index, slice_set, IfOk, MatchOption, OnOk, OnErr};
 ghost use Rattle.page_store.specs.Contents.{flat, unmarked, is_marked, count_marked, is_among};
 
 use crate::places::Places;
@@ -124,6 +124,23 @@ impl Pages {
         self.places.reserve(self.free as usize + pages)?;
         self.places.lay(at, bytes);
         Ok(())
+    }
+
+    /// Takes back the bytes of a page, which are 0 from now on, and its frame, if it has one. It still counts as written.
+    pub fn release(&mut self, page: u32)
+        requires { page < 2 ^ 20 }
+        ensures bytes { (q : ℕ) → slice_index self.new.flat_bytes q ≡ (if q / 4096 == page then 0 else slice_index self.old.flat_bytes q) }
+        ensures len { length self.new.flat_bytes ≡ 2 ^ 32 }
+        ensures framed { self.new.framed ≡ slice_set self.old.framed page false }
+        ensures touched { self.new.touched ≡ self.old.touched }
+        ensures free { self.new.free ≡ self.old.free + (if is_marked self.old.framed (4096 * page) then 1 else 0) }
+        ensures frames { self.new.frames ≡ self.old.frames }
+    {
+        self.places.take_back(page);
+        if self.framed[page as usize] {
+            self.framed[page as usize] = false;
+            self.free += 1;
+        }
     }
 
     /// How many frames are free.

@@ -1,5 +1,5 @@
 // Where the bytes of pages are kept.
-ghost use Rattle.std.specs.Prelude.{[], ◌∷◌, ◌++◌, ◌≡◌, ℕ, ◌+◌, ◌-◌, ◌*◌, ◌/◌, ◌%◌, ◌^◌, ◌<◌, ◌≤◌, true, false, length, if◌then◌else◌, slice_index, vec_capacity, replicate, IfOk, MatchOption, OnOk};
+ghost use Rattle.std.specs.Prelude.{[], ◌∷◌, ◌++◌, ◌≡◌, ℕ, ◌+◌, ◌-◌, ◌*◌, ◌/◌, ◌%◌, ◌^◌, ◌<◌, ◌≤◌, ◌≢◌, ◌==◌, true, false, length, if◌then◌else◌, slice_index, vec_capacity, replicate, IfOk, MatchOption, OnOk};
 ghost use Rattle.page_store.specs.Contents.{is_among};
 ghost use Rattle.page_store.specs.Places.{byte_in, has_place_in, pages_of, IsTable, HasRoom};
 
@@ -114,6 +114,25 @@ impl Places {
         self.table[page as usize] = place as u32;
     }
 
+    /// Takes the place of a page back, if it has one: its bytes are 0 from now on. The bytes of the last place move there.
+    pub(crate) fn take_back(&mut self, page: u32)
+        requires table { IsTable self.old }
+        requires page { page < 2 ^ 20 }
+        ensures table { IsTable self.new }
+        ensures bytes { (q : ℕ) → byte_in self.new q ≡ (if q / 4096 == page then 0 else byte_in self.old q) }
+        ensures kept { (p : ℕ) → p ≢ page → has_place_in self.old p ≡ true → has_place_in self.new p ≡ true }
+        ensures room { (n : ℕ) → HasRoom self.old n → HasRoom self.new n }
+        ensures more { has_place_in self.old page ≡ true → (n : ℕ) → HasRoom self.old n → HasRoom self.new (n + 1) }
+    {
+        if let Some(place) = self.place_of(page) {
+            let last = self.owners.len() - 1;
+            let moved = self.owners[last];
+            move_last(&mut self.bytes, last, place);
+            self.owners.swap_remove(place);
+            self.table[moved as usize] = place as u32;
+        }
+    }
+
     /// Writes bytes within a page that has a place.
     pub(crate) fn write(&mut self, at: u32, source: &[u8])
         requires table { IsTable self.old }
@@ -160,6 +179,21 @@ fn add_zeros(bytes: &mut Vec<u8>)
     ensures capacity { vec_capacity bytes.old ≤ vec_capacity bytes.new }
 {
     bytes.resize(bytes.len() + PAGE_SIZE, 0).unwrap();
+}
+
+/// Moves the bytes of the last place to a place, and drops the last.
+fn move_last(bytes: &mut Vec<u8>, last: usize, place: usize)
+    requires order { place ≤ last }
+    requires few { last < 2 ^ 20 }
+    requires len { length bytes.old.items ≡ 4096 * (last + 1) }
+    ensures len { length bytes.new.items ≡ 4096 * last }
+    ensures moved { (i : ℕ) → i < 4096 → place < last → slice_index bytes.new.items (4096 * place + i) ≡ slice_index bytes.old.items (4096 * last + i) }
+    ensures same { (k : ℕ) → k / 4096 ≢ place → k < 4096 * last → slice_index bytes.new.items k ≡ slice_index bytes.old.items k }
+    ensures capacity { vec_capacity bytes.new ≡ vec_capacity bytes.old }
+{
+    let from = PAGE_SIZE * last;
+    bytes.copy_within(from..from + PAGE_SIZE, PAGE_SIZE * place);
+    bytes.truncate(from);
 }
 
 /// Copies the source over the bytes from `from` on.

@@ -24,3 +24,24 @@ fn places_and_writes(rt: HostRuntime) -> Result<(), Fail> {
     );
     Ok(())
 }
+
+#[test]
+fn releases(rt: HostRuntime) -> Result<(), Fail> {
+    let mut pages = Pages::empty(rt.alloc(), 2)?;
+    assert!(rt; pages.free() > 1);
+    pages.write(0x1000, &[1]);
+    assert!(rt; pages.free() > 0);
+    pages.write(0x5fff, &[2]);
+    pages.release(1);
+    pages.release(3);
+    assert_eq!(rt; (pages.read(0x1000), pages.read(0x5fff)), (0, 2));
+    assert_eq!(rt; (pages.written(), pages.free()), (2, 1));
+    assert!(rt; pages.free() > 0);
+    pages.write(0x1001, &[3]);
+    assert_eq!(rt;
+        (pages.read(0x1000), pages.read(0x1001), pages.read(0x5fff)),
+        (0, 3, 2)
+    );
+    assert_eq!(rt; (pages.written(), pages.free()), (2, 0));
+    Ok(())
+}
