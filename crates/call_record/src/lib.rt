@@ -1,0 +1,10 @@
+//! The records of a guest's calls: what each call that went on answered and stored.
+#![tactic(auto)]
+
+mod log;
+mod record;
+#[cfg(test)]
+mod tests;
+
+pub use log::RecordLog;
+pub use record::{Record, Write};
