@@ -1,5 +1,5 @@
 -- Which addresses the areas of a guest's memory hold, and what may be done there.
-use Rattle.std.specs.Prelude.{ℕ, ◌+◌, ◌%◌, ◌^◌, Bool, ◌&&◌, List, nat_lt, nat_le}
+use Rattle.std.specs.Prelude.{ℕ, ◌+◌, ◌*◌, ◌/◌, ◌%◌, ◌^◌, Bool, ◌&&◌, List, nat_lt, nat_le}
 use Rattle.std.specs.List.{list_any, list_all, range_with_len}
 use Rattle.guest_model.specs.declared.Area.{Area}
 use Rattle.guest_model.specs.declared.Access.{Access}
@@ -8,6 +8,13 @@ use Rattle.guest_model.specs.declared.Access.TheVariants.{Read, Write, Execute}
 -- an address is a number modulo 2^32 (RISC-V unprivileged manual, "Memory")
 abbrev pub wrap : ℕ → ℕ
 wrap a = a % 2 ^ 32
+
+-- an address rounded down, and rounded up, to whole pages of 4,096 bytes
+abbrev pub rounded_down : ℕ → ℕ
+rounded_down a = a / 4096 * 4096
+
+abbrev pub rounded_up : ℕ → ℕ
+rounded_up a = (a + 4095) / 4096 * 4096
 
 -- whether the area holds the address
 abbrev pub holds : Area → ℕ → Bool

@@ -101,6 +101,13 @@ stores_some m i (Some s) = Next (record m { pc = following m; space = s; fresh =
 abbrev pub stores : Machine → Fields → Effect
 stores m i = stores_some m i (write_number m.space (address m i) (size_of i.op) (rs2_value m i))
 
+-- how many bytes from its address on an instruction stores: none where it is no store
+abbrev pub stored_size : Op → ℕ
+stored_size Sb = 1
+stored_size Sh = 2
+stored_size Sw = 4
+stored_size _ = 0
+
 -- one row for each instruction
 abbrev pub effect_by : Op → Machine → Fields → Effect
 effect_by Lui m i = writes m i (immediate i)

@@ -3,6 +3,8 @@ pub mod Bytes
 pub mod Space
 pub mod Added
 pub mod Machine
+pub mod Errors
+pub mod Maps
 pub mod Effect
 pub mod Call
 pub mod Runs
