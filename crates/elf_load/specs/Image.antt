@@ -18,7 +18,10 @@ pub record IsSegment (s : SegmentFields) : Type 0 where
   pub below : s.start + s.size ≤ 0x40000000
   pub fits : length s.bytes ≤ s.size
 
--- it can be executed (PF_X), and it can be written (PF_W)
+-- it can be read (PF_R), written (PF_W), executed (PF_X)
+abbrev pub is_readable : SegmentFields → Bool
+is_readable s = not (bit_and s.flags 4 == 0)
+
 abbrev pub is_executable : SegmentFields → Bool
 is_executable s = not (bit_and s.flags 1 == 0)
 
