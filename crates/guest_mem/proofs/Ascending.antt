@@ -1,17 +1,16 @@
 -- For callers that add areas one behind the other: what the conditions of `add_area` ask stays known.
-use Rattle.std.proofs.Common.{◌≡◌, ℕ, ◌+◌, ◌-◌, ◌/◌, ◌<◌, ◌≤◌, Bool, true, List, [], ◌∷◌, length, refl, sym, ap, ◌∙◌, inl, inr, arith}
-use Rattle.std.specs.List.{position_or_len, insert}
+use Rattle.std.proofs.Common.{◌≡◌, ℕ, ◌+◌, ◌/◌, ◌<◌, ◌≤◌, Bool, true, List, [], ◌∷◌, length, refl, sym, ap, ◌∙◌, inl, inr, arith}
+use Rattle.std.specs.List.{position_or_len}
 use Rattle.std.proofs.lemmas.Bool.{or_cases, cases_Bool, true≢false, false_from_ne_true}
 use Rattle.std.proofs.lemmas.Bool.Decides.{nat_tests}
-use Rattle.std.proofs.lemmas.List.Sums.{sum_by-insert}
 use Rattle.std.proofs.lemmas.List.Edits.{length-insert}
 use Rattle.guest_model.specs.Areas.{is_mapped, holds}
 use Rattle.guest_model.specs.Added.{heap_area, empty_space, with_area, insert_area, comes_before, page_count, size_of}
 use Rattle.guest_model.specs.Space.{Space}
 use Rattle.guest_model.specs.declared.Area.{Area}
 use Rattle.guest_mem.specs.Memory.{IsApart}
-use Rattle.guest_mem.proofs.Added.{is_mapped-insert}
-use Rattle.guest_mem.proofs.Begun.{heap_holds}
+use Rattle.guest_mem.proofs.Added.{is_mapped-insert, pages_insert}
+use Rattle.guest_mem.proofs.Begun.{heap_holds, no_size}
 
 place_within : (p : Area → Bool) (xs : List Area) → position_or_len p xs ≤ length xs
 place_within p [] = omega arith
@@ -44,10 +43,6 @@ heap_begun : (h : ℕ) → (empty_space h).heap_break ≡ h
 unfolding empty_space
 heap_begun h = refl
 
-no_size : (h : ℕ) → page_count (heap_area h ∷ []) ≡ 0
-unfolding page_count
-no_size h = let none : (h - h) / 4096 ≡ 0 = omega arith in omega (arith, none)
-
 pub ascending-empty : (s : Space) (h : ℕ) → s ≡ empty_space h → Ascending s 0 1 0 h
 ascending-empty s h e =
     let areas = ap (λ (t : Space). t.areas) e ∙ areas_begun h in
@@ -63,10 +58,6 @@ held_below x a h = grind (arith, nat_tests)
 
 held_from : (x : Area) (a : ℕ) → holds x a ≡ true → x.start ≤ a
 held_from x a h = grind (arith, nat_tests)
-
-pages_insert : (xs : List Area) (i : ℕ) (x : Area) → page_count (insert xs i x) ≡ page_count xs + size_of x / 4096
-unfolding page_count
-pages_insert xs i x = sum_by-insert (λ y. size_of y / 4096) xs i x
 
 pub ascending-added : (s t : Space) (x : Area) (at : ℕ) (given : List ℕ) (ends areas pages heap : ℕ) → t ≡ with_area s x at given → Ascending s ends areas pages heap → ends ≤ x.start → x.start ≤ x.end
     → Ascending t x.end (areas + 1) (pages + size_of x / 4096) heap

@@ -1,13 +1,13 @@
 -- The space with which a guest's memory begins.
-use Rattle.std.proofs.Common.{◌≡◌, ℕ, zero, suc, ◌*◌, ◌%◌, ◌^◌, ◌≤◌, ◌&&◌, false, List, [], ◌∷◌, length, get_or, refl, sym, ap, ◌∙◌, inl, inr, arith}
+use Rattle.std.proofs.Common.{◌≡◌, ℕ, zero, suc, ◌-◌, ◌*◌, ◌/◌, ◌%◌, ◌^◌, ◌≤◌, ◌&&◌, false, List, [], ◌∷◌, length, get_or, refl, sym, ap, ◌∙◌, inl, inr, arith}
 use Rattle.std.specs.List.{All}
 use Rattle.std.specs.FinMap as map
 use Rattle.std.specs.Ordering.{nat_cmp}
 use Rattle.std.proofs.lemmas.Bool.{cases_lt, cond-false}
 use Rattle.std.proofs.lemmas.Bool.Decides.{nat_tests}
 use Rattle.std.proofs.lemmas.List.{get_or_past}
-use Rattle.guest_model.specs.Areas.{is_mapped, is_permitted}
-use Rattle.guest_model.specs.Added.{heap_area, empty_space}
+use Rattle.guest_model.specs.Areas.{is_mapped, is_permitted, rounded_up}
+use Rattle.guest_model.specs.Added.{heap_area, empty_space, page_count}
 use Rattle.guest_model.specs.Bytes.{Bytes}
 use Rattle.guest_model.specs.Space.{Space}
 use Rattle.guest_model.specs.declared.Access.{Access}
@@ -15,7 +15,7 @@ use Rattle.guest_model.specs.declared.Access.TheVariants.{Read, Write, Execute}
 use Rattle.page_store.specs.Contents.{Contents, flat, unmarked}
 use Rattle.page_store.proofs.Flat.{length-flat, get_or-flat, length-unmarked, get_or-unmarked}
 use Rattle.guest_mem.specs.Mapped.{of_areas, space_over}
-use Rattle.guest_mem.specs.Sound.{IsSound, IsWhole, allows, no_rights}
+use Rattle.guest_mem.specs.Sound.{IsSound, IsWhole, IsOnOneSide, allows, no_rights}
 use Rattle.guest_mem.specs.declared.rights.Rights.{Rights}
 use Rattle.guest_mem.proofs.Mapped.{get-of_areas, same_bytes}
 
@@ -25,7 +25,7 @@ heap_holds h a = grind (arith, nat_tests)
 heap_permits : (access : Access) (h a : ℕ) → is_permitted access (heap_area h ∷ []) a ≡ false
 heap_permits access h a = grind (arith, nat_tests)
 
-nothing_allowed : (access : Access) → allows access no_rights ≡ false
+pub nothing_allowed : (access : Access) → allows access no_rights ≡ false
 nothing_allowed Read = refl
 nothing_allowed Write = refl
 nothing_allowed Execute = refl
@@ -41,10 +41,22 @@ whole_heap : (h : ℕ) → h % 4096 ≡ 0 → h ≤ 0x40000000 → All IsWhole (
 whole_heap h page high zero d lt = record { start = page; end = page; order = omega arith; fits = omega arith }
 whole_heap h page high (suc k) d lt = absurd (omega arith)
 
+pub no_size : (h : ℕ) → page_count (heap_area h ∷ []) ≡ 0
+unfolding page_count
+no_size h = let none : (h - h) / 4096 ≡ 0 = omega arith in omega (arith, none)
+
+heap_side : (h : ℕ) → h ≤ 0x40000000 → All IsOnOneSide (heap_area h ∷ [])
+heap_side h high zero d lt = inl high
+heap_side h high (suc k) d lt = absurd (omega arith)
+
+rounded : (h : ℕ) → h % 4096 ≡ 0 → rounded_up h ≡ h
+rounded h page = omega arith
+
 pub sound_empty : (h : ℕ) (rights : List Rights) (pages : Contents) → h % 4096 ≡ 0 → h ≤ 0x40000000 → length rights ≡ 2 ^ 20 → ((page : ℕ) → get_or rights page no_rights ≡ no_rights)
     → pages.flat_bytes ≡ flat (λ _. 0) → pages.framed ≡ unmarked (2 ^ 20) → pages.touched ≡ unmarked (2 ^ 20) → IsSound (heap_area h ∷ []) rights pages h 0x40000000
 sound_empty h rights pages page high len none bytes framed touched = record {
   whole = whole_heap h page high;
+  few_pages = omega (arith, no_size h);
   table = record { len = len; each = λ access p lt. ap (allows access) (none p) ∙ nothing_allowed access ∙ sym (heap_permits access h (4096 * p)) };
   pages_len = ap length bytes ∙ length-flat (λ _. 0);
   rest_zero = λ a _. zeros pages.flat_bytes bytes a;
@@ -53,10 +65,12 @@ sound_empty h rights pages page high len none bytes framed touched = record {
   framed_where = λ p lt.
       ap (λ l. get_or l p false) framed ∙ get_or-unmarked (2 ^ 20) p
       ∙ sym (ap (λ t. t && is_mapped (heap_area h ∷ []) (4096 * p)) (ap (λ l. get_or l p false) touched ∙ get_or-unmarked (2 ^ 20) p));
+  sides = λ k d lt. heap_side h high k d lt;
   heap_bound = high;
-  next_bound = omega arith;
-  heap_free = λ a _ _. heap_holds h a;
-  maps_free = λ a _ _. heap_holds h a;
+  heap = grind (arith, nat_tests, rounded h page);
+  next = record { page = omega arith; low = omega arith; high = omega arith };
+  unused_free = λ a _. heap_holds h a;
+  unused_untouched = λ p _. ap (λ l. get_or l p false) touched ∙ get_or-unmarked (2 ^ 20) p;
 }
 
 pub empty_over : (h : ℕ) (all : List ℕ) → space_over (heap_area h ∷ []) all h 0x40000000 ≡ empty_space h

@@ -6,4 +6,11 @@ pub mod Written
 pub mod Stored
 pub mod Added
 pub mod Begun
+pub mod Heap
+pub mod Placed
+pub mod Mapping
+pub mod Growing
+pub mod Cut
+pub mod Unmapped
+pub mod Enough
 pub mod Ascending

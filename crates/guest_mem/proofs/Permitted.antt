@@ -74,10 +74,10 @@ in_page_end s q e lt = omega arith
 pub holds_page : (x : Area) → IsWhole x → (q : ℕ) → holds x q ≡ holds x (4096 * (q / 4096))
 holds_page x whole q = grind (arith, nat_tests, in_page_start x.start q whole.start, in_page_end x.end q whole.end)
 
-whole_head : (x : Area) (xs : List Area) → All IsWhole (x ∷ xs) → IsWhole x
+pub whole_head : (x : Area) (xs : List Area) → All IsWhole (x ∷ xs) → IsWhole x
 whole_head x xs whole = whole 0 x (omega arith)
 
-whole_tail : (x : Area) (xs : List Area) → All IsWhole (x ∷ xs) → All IsWhole xs
+pub whole_tail : (x : Area) (xs : List Area) → All IsWhole (x ∷ xs) → All IsWhole xs
 whole_tail x xs whole = λ k d lt. whole (suc k) d (omega arith)
 
 pub permitted_page : (access : Access) (areas : List Area) → All IsWhole areas → (q : ℕ) → is_permitted access areas q ≡ is_permitted access areas (4096 * (q / 4096))

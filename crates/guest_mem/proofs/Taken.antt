@@ -21,7 +21,7 @@ any_from p s (suc n) (suc i) lt h =
     let rest = any_from p (s + 1) n i (omega arith) (ap p (sym next) ∙ h) in
     grind (arith, rest)
 
-any_none : (p : ℕ → Bool) (s n : ℕ) → ((i : ℕ) → i < n → p (s + i) ≡ false) → list_any p (range_with_len s n) ≡ false
+pub any_none : (p : ℕ → Bool) (s n : ℕ) → ((i : ℕ) → i < n → p (s + i) ≡ false) → list_any p (range_with_len s n) ≡ false
 any_none p s zero h = refl
 any_none p s (suc n) h =
     let here : p s ≡ false = ap p (sym (add-zero s)) ∙ h 0 (omega arith) in
@@ -153,7 +153,7 @@ count_map : (f : ℕ → Bool) (xs : List ℕ) → count_by (λ m. m) (map f xs)
 count_map f [] = refl
 count_map f (x ∷ xs) = omega (arith, count_map f xs, sum_by-cons (λ (m : Bool). cond {A = ℕ} m 1 0) (f x) (map f xs), sum_by-cons (λ p. cond {A = ℕ} (f p) 1 0) x xs)
 
-counted : (marks : List Bool) → count_marked marks ≡ count_by (λ page. get_or marks page false) (range_with_len 0 (length marks))
+pub counted : (marks : List Bool) → count_marked marks ≡ count_by (λ page. get_or marks page false) (range_with_len 0 (length marks))
 unfolding count_marked
 counted marks =
     ap (count_by (λ m. m)) (fill_by_all (λ page. get_or marks page false) marks (length marks) false refl (λ k lt. refl))

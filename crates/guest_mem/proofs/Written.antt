@@ -62,6 +62,7 @@ pub sound_written : (areas : List Area) (rights : List Rights) (old new : Conten
     → IsSound areas rights new brk next
 sound_written areas rights old new brk next a source sound fits within here bytes len framed touched = record {
   whole = sound.whole;
+  few_pages = sound.few_pages;
   table = sound.table;
   pages_len = len;
   rest_zero = λ q none. bytes q ∙ unmapped_still (is_among a (length source) q) (is_mapped areas q) _ _ (mapped_among areas a (length source) sound.whole here within q) none (sound.rest_zero q none);
@@ -80,8 +81,13 @@ sound_written areas rights old new brk next a source sound fits within here byte
         ∙ sound.framed_where page lt
         ∙ ap (λ t. t && is_mapped areas (4096 * page)) (sym (ap (λ l. get_or l page false) touched ∙ get_or-set_other old.touched (a / 4096) page true false ne))
   ];
+  sides = sound.sides;
   heap_bound = sound.heap_bound;
-  next_bound = sound.next_bound;
-  heap_free = sound.heap_free;
-  maps_free = sound.maps_free;
+  heap = sound.heap;
+  next = sound.next;
+  unused_free = sound.unused_free;
+  unused_untouched = λ page h. elim (cases_eq page (a / 4096)) [
+    | inl e ↦ absurd (true≢false (sym here ∙ mapped_page areas sound.whole a ∙ ap (λ p. is_mapped areas (4096 * p)) (sym e) ∙ sound.unused_free (4096 * page) h))
+    | inr ne ↦ ap (λ l. get_or l page false) touched ∙ get_or-set_other old.touched (a / 4096) page true false ne ∙ sound.unused_untouched page h
+  ];
 }

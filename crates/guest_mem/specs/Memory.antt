@@ -1,10 +1,11 @@
 -- A guest's memory: its space, and the frames that its pages take when they are written.
-use Rattle.std.specs.Prelude.{◌≡◌, ℕ, ◌*◌, ◌≤◌, ◌<◌, ◌^◌, Bool, ◌&&◌, false, true, List, slice_index_or, refl}
+use Rattle.std.specs.Prelude.{◌≡◌, ℕ, ◌+◌, ◌*◌, ◌≤◌, ◌<◌, ◌^◌, ◌⊎◌, Bool, ◌&&◌, false, true, List, slice_index_or, refl}
 use Rattle.std.specs.Coded.{Coded, coded_ℕ, coded_bool, coded_list, coded×, code_by}
 use Rattle.guest_model.specs.Areas.{is_mapped, holds}
 use Rattle.guest_model.specs.Space.{Space, space_code}
 use Rattle.guest_model.specs.declared.Area.{Area}
-use Rattle.guest_mem.specs.Frames.{frames_for}
+use Rattle.page_store.specs.Contents.{unmarked}
+use Rattle.guest_mem.specs.Frames.{frames_for, marked_for}
 
 pub record Memory : Type 0 where
   pub space : Space
@@ -20,6 +21,24 @@ pub record Memory : Type 0 where
 -- as many frames are free as a store of n bytes from a on takes
 abbrev pub FramesSuffice : Memory → ℕ → ℕ → Type 0
 FramesSuffice m a n = frames_for m.framed a n ≤ m.free
+
+-- a store of n bytes from a on lacks no frame: there is one for each page that can be mapped, or enough are free
+abbrev pub HasFrames : Memory → ℕ → ℕ → Type 0
+HasFrames m a n = (16384 ≤ m.frames) ⊎ FramesSuffice m a n
+
+-- a store of n bytes from a on takes its frames
+pub record TakesFrames (old new : Memory) (a n : ℕ) : Type 0 where
+  pub framed : new.framed ≡ marked_for old.framed a n
+  pub touched : new.touched ≡ marked_for old.touched a n
+  pub free : new.free + frames_for old.framed a n ≡ old.free
+  pub frames : new.frames ≡ old.frames
+
+-- no page was written, and so many frames are free
+pub record HasFreeFrames (m : Memory) (frames : ℕ) : Type 0 where
+  pub framed : m.framed ≡ unmarked (2 ^ 20)
+  pub touched : m.touched ≡ unmarked (2 ^ 20)
+  pub free : m.free ≡ frames
+  pub frames_are : m.frames ≡ frames
 
 -- a page has a frame exactly where it was written and is mapped
 abbrev pub HasFramesWhereWritten : Memory → Type 0

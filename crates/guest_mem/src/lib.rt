@@ -1,6 +1,8 @@
 //! A guest's memory: areas over pages of bytes.
 #![tactic(auto)]
 
+mod areas;
+mod clear;
 pub mod laws;
 mod number;
 mod rights;

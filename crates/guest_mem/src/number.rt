@@ -1,11 +1,12 @@
 // Numbers as bytes, the lowest first.
-ghost use Rattle.std.specs.Prelude.{[], ◌∷◌, ◌≡◌, ℕ, ◌+◌, ◌*◌, ◌/◌, ◌%◌, ◌⊎◌, length};
+ghost use Rattle.std.specs.Prelude.{[], ◌∷◌, ◌≡◌, ℕ, ◌+◌, ◌*◌, ◌/◌, ◌%◌, ◌^◌, ◌<◌, ◌⊎◌, length};
 ghost use Rattle.guest_model.specs.Bytes.{number_of as number_of_bytes, low_bytes as low_bytes_of};
 
 /// The number of 1, 2 or 4 bytes.
 pub(crate) fn number_of(bytes: &[u8]) -> u32
     requires { (length bytes.now ≡ 1) ⊎ ((length bytes.now ≡ 2) ⊎ (length bytes.now ≡ 4)) }
-    ensures { result ≡ number_of_bytes bytes.now }
+    ensures number { result ≡ number_of_bytes bytes.now }
+    ensures fits { result < 2 ^ (8 * length bytes.now) }
 {
     match bytes {
         [first] => *first as u32,

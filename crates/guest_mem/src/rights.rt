@@ -1,8 +1,6 @@
 // What may be done in each page.
 ghost use Rattle.std.specs.Prelude.{◌≡◌, ℕ, ◌*◌, ◌/◌, ◌^◌, ◌<◌, ◌≤◌, ◌&&◌, true, false, length, if◌then◌else◌, nat_le, nat_lt, slice_index_or, IfOk};
-ghost use Rattle.std.specs.List.{position_or_len};
 ghost use Rattle.guest_model.specs.Areas.{permits};
-ghost use Rattle.guest_model.specs.Added.{comes_before};
 ghost use Rattle.guest_model.specs.declared.Access.{Access as Accesses};
 ghost use Rattle.guest_mem.specs.Sound.{allows as allows_access, no_rights};
 
@@ -16,6 +14,13 @@ pub(crate) struct Rights {
     pub(crate) write: bool,
     pub(crate) execute: bool,
 }
+
+/// What may be done in a page of no area.
+pub(crate) const NO_RIGHTS: Rights = Rights {
+    read: false,
+    write: false,
+    execute: false,
+};
 
 impl Rights {
     /// The rights that an area gives to its pages.
@@ -45,12 +50,7 @@ pub(crate) fn no_table(alloc: Global, pages: usize) -> Result<Vec<Rights>, Alloc
     ensures len { IfOk result (λ v. length v.items ≡ pages) }
     ensures none { IfOk result (λ v. (page : ℕ) → slice_index_or v.items page no_rights ≡ no_rights) }
 {
-    let none = Rights {
-        read: false,
-        write: false,
-        execute: false,
-    };
-    vec![in alloc; none; pages]
+    vec![in alloc; NO_RIGHTS; pages]
 }
 
 /// Gives these rights to the pages from `from` to below `to`.
@@ -63,23 +63,4 @@ pub(crate) fn fill(table: &mut Vec<Rights>, from: u32, to: u32, rights: Rights)
     for page in from..to {
         table[page as usize] = rights;
     }
-}
-
-/// Where the area belongs among the areas.
-pub(crate) fn place_of(areas: &[Area], area: &Area) -> usize
-    ensures place { result ≡ position_or_len (comes_before area.now) areas.now }
-    ensures within { result ≤ length areas.now }
-{
-    for (i, other) in areas.iter().enumerate() {
-        if comes_before_other(area, other) {
-            return i;
-        }
-    }
-    areas.len()
-}
-
-fn comes_before_other(area: &Area, other: &Area) -> bool
-    ensures { result ≡ comes_before area.now other.now }
-{
-    area.start < other.start || area.start == other.start && area.end <= other.end
 }

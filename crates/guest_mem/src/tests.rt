@@ -127,3 +127,126 @@ fn puts(rt: HostRuntime) -> Result<(), Fail> {
     assert_eq!(rt; (space.written(), space.free()), (2, 6));
     Ok(())
 }
+
+/// EINVAL and ENOMEM, as the results of calls.
+const BAD_ARGUMENT: u32 = 0xffffffea;
+
+const NO_ROOM: u32 = 0xfffffff4;
+
+// Where the heap is to end, and where it ends then.
+const BREAKS: [(u32, u32); 7] = [
+    (0, 0x20000),
+    (0x1ffff, 0x20000),
+    (0x20001, 0x20001),
+    (0x20000, 0x20001),
+    (0x23fff, 0x23fff),
+    (0x40000001, 0x23fff),
+    (0x4021000, 0x23fff),
+];
+
+#[test]
+#[tactic(auto, using(crate::proofs::Taken::few_frames_of))]
+fn grows(rt: HostRuntime) -> Result<(), Fail> {
+    let mut space = small(rt.alloc())?;
+    for (to, end) in BREAKS.iter() {
+        assert_eq!(rt; space.grow_break(*to), *end, "to {to:x}");
+    }
+    assert_eq!(rt; (space.heap_break(), space.areas().len()), (0x23fff, 4));
+    assert_eq!(rt;
+        (space.load(0x23ffc, 4), space.load(0x24000, 1)),
+        (Ok(0), Err(Denied))
+    );
+    assert!(rt; space.free() >= 2);
+    assert_eq!(rt; space.store(0x20ffe, 4, 0xddccbbaa), Ok(()));
+    assert_eq!(rt; space.load(0x20ffe, 4), Ok(0xddccbbaa));
+    Ok(())
+}
+
+// The length, what may be done, the flags, and the result.
+const MAPPINGS: [(u32, u32, u32, u32); 10] = [
+    (0, 3, 0x22, BAD_ARGUMENT),
+    (1, 3, 0x32, BAD_ARGUMENT),
+    (1, 3, 0x21, BAD_ARGUMENT),
+    (1, 3, 0x02, BAD_ARGUMENT),
+    (1, 7, 0x22, BAD_ARGUMENT),
+    (0x4000000, 3, 0x22, NO_ROOM),
+    (0xffffffff, 3, 0x22, NO_ROOM),
+    (1, 3, 0x4022, 0x40000000),
+    (0x1001, 1, 0x22, 0x40001000),
+    (0x1000, 0, 0x22, 0x40003000),
+];
+
+#[test]
+fn maps(rt: HostRuntime) -> Result<(), Fail> {
+    let mut space = small(rt.alloc())?;
+    for (len, prot, flags, start) in MAPPINGS.iter() {
+        assert_eq!(rt;
+            space.map(*len, *prot, *flags),
+            *start,
+            "of {len:x}, {prot}, {flags:x}"
+        );
+    }
+    assert_eq!(rt; (space.next_map(), space.areas().len()), (0x40004000, 7));
+    assert_eq!(rt; space.load(0x40000ffe, 4), Ok(0));
+    assert!(rt; space.writable(0x40000000, 0x1000) && !space.writable(0x40000000, 0x1001));
+    assert!(rt; space.readable(0x40000000, 0x3000) && !space.readable(0x40000000, 0x3001));
+    Ok(())
+}
+
+// A range that cannot be unmapped: from where, and its length.
+const NO_RANGES: [(u32, u32); 5] = [
+    (0x40000800, 0x1000),
+    (0x40000000, 0),
+    (0x3ffff000, 0x2000),
+    (0x7fdff000, 0x1001),
+    (0x40000000, 0xffffffff),
+];
+
+#[test]
+#[tactic(auto, using(crate::proofs::Taken::few_frames_of))]
+fn unmaps(rt: HostRuntime) -> Result<(), Fail> {
+    let mut space = small(rt.alloc())?;
+    assert_eq!(rt; space.map(0x3000, 3, 0x22), 0x40000000);
+    assert!(rt; space.free() >= 2);
+    assert_eq!(rt; space.store(0x40000ffe, 4, 0xddccbbaa), Ok(()));
+    for (at, len) in NO_RANGES.iter() {
+        assert_eq!(rt; space.unmap(*at, *len), BAD_ARGUMENT, "{len:x} at {at:x}");
+    }
+    assert_eq!(rt; (space.written(), space.free()), (2, 6));
+    assert_eq!(rt; space.unmap(0x40001000, 1), 0);
+    assert_eq!(rt; (space.written(), space.free()), (2, 7));
+    assert_eq!(rt; (space.areas().len(), space.next_map()), (6, 0x40003000));
+    assert_eq!(rt;
+        (
+            space.load(0x40000ffe, 2),
+            space.load(0x40001000, 1),
+            space.load(0x40002000, 4)
+        ),
+        (Ok(0xbbaa), Err(Denied), Ok(0))
+    );
+    assert_eq!(rt; space.peek_byte(0x40001000), 0);
+    assert_eq!(rt; space.unmap(0x40000000, 0x10000), 0);
+    assert_eq!(rt;
+        (space.written(), space.free(), space.areas().len()),
+        (2, 8, 4)
+    );
+    Ok(())
+}
+
+#[test]
+fn fills_up(rt: HostRuntime) -> Result<(), Fail> {
+    let mut space = small(rt.alloc())?;
+    for i in 0..59 {
+        assert_eq!(rt; space.map(0x1000, 3, 0x22), 0x40000000 + 0x1000 * i);
+    }
+    assert_eq!(rt; space.map(0x3000, 3, 0x22), 0x4003b000);
+    assert_eq!(rt;
+        (space.areas().len(), space.map(0x1000, 3, 0x22)),
+        (64, NO_ROOM)
+    );
+    assert_eq!(rt; space.unmap(0x4003c000, 0x1000), NO_ROOM);
+    assert_eq!(rt; space.unmap(0x40000000, 0x1000), 0);
+    assert_eq!(rt; space.unmap(0x4003c000, 0x1000), 0);
+    assert_eq!(rt; space.areas().len(), 64);
+    Ok(())
+}

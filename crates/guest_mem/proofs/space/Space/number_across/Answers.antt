@@ -15,9 +15,9 @@ loop-i-preserved c = record {
       ∙ fill_by_more (λ i. byte_at c.args.self.now.space.bytes (wrap (c.args.at + i))) c.loop-i.bytes c.loop-i.i 0 (omega arith) c.loop-i.invariant.read k lt;
 }
 
-pub returns : goal.returns
-returns c =
+pub returns-clause-number : goal.returns-clause-number
+returns-clause-number c =
     let done : c.loop-i.i ≡ c.args.size = omega arith in
     let size : c.args.size ≤ length c.loop-i.bytes = omega arith in
-    c.number_of.ensures
+    c.number_of.ensures.number
     ∙ ap number_of (bytes_read c.args.self.now.space.bytes c.args.at c.args.size _ (length-take-le c.args.size c.loop-i.bytes size) (λ i lt. get_or-take c.args.size c.loop-i.bytes i 0 lt ∙ c.loop-i.invariant.read i (omega arith)))

@@ -3,7 +3,7 @@ use Rattle.std.proofs.lemmas.List.{length-take}
 use Rattle.guest_model.specs.Areas.{is_mapped}
 use Rattle.guest_model.specs.declared.Access.TheVariants.{Write}
 use Rattle.guest_mem.specs.Frames.{frames_for}
-use Rattle.guest_mem.proofs.Permitted.{below_mapped}
+use Rattle.guest_mem.proofs.Permitted.{below_mapped, all_mapped}
 use Rattle.guest_mem.proofs.space.Space.store.Goals as goal
 
 pub store_bytes-requires-clause-end : goal.store_bytes-requires-clause-end
@@ -16,7 +16,16 @@ store_bytes-requires-clause-mapped c = λ i lt.
 pub store_bytes-requires-clause-frames : goal.store_bytes-requires-clause-frames
 store_bytes-requires-clause-frames c =
     let len : length (take c.args.size c.low_bytes-bytes.result) ≡ c.args.size = omega (arith, length-take c.args.size c.low_bytes-bytes.result) in
-    omega (arith, c.requires.frames (sym c.allows.ensures.permitted ∙ c.if-not-allows.false), ap (frames_for c.args.self.now.framed c.args.at) len)
+    let permitted = sym c.allows.ensures.permitted ∙ c.if-not-allows.false in
+    let enough = c.lacks_none.ensures c.args.at c.args.size (all_mapped Write c.args.self.now.space.areas c.args.at c.args.size permitted) (c.requires.frames permitted) in
+    omega (arith, enough, ap (frames_for c.args.self.now.framed c.args.at) len)
+
+pub store_in_page-requires-clause-frames : goal.store_in_page-requires-clause-frames
+store_in_page-requires-clause-frames c =
+    let len : length (take c.args.size c.low_bytes-bytes.result) ≡ c.args.size = omega (arith, length-take c.args.size c.low_bytes-bytes.result) in
+    let permitted = sym c.allows.ensures.permitted ∙ c.if-not-allows.false in
+    let enough = c.lacks_none.ensures c.args.at c.args.size (all_mapped Write c.args.self.now.space.areas c.args.at c.args.size permitted) (c.requires.frames permitted) in
+    omega (arith, enough, ap (frames_for c.args.self.now.framed c.args.at) len)
 
 pub store_in_page-requires-clause-mapped : goal.store_in_page-requires-clause-mapped
 store_in_page-requires-clause-mapped c =

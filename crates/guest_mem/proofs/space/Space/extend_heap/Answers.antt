@@ -1,0 +1,50 @@
+use Rattle.std.proofs.Common.{◌+◌, ◌-◌, ◌/◌, ◌≤◌, ap, [], false, get_or, refl, sym, arith}
+use Rattle.std.specs.List.{IsAfterLastMatch}
+use Rattle.guest_model.specs.Added.{page_count}
+use Rattle.guest_model.specs.Areas.{rounded_up}
+use Rattle.guest_model.specs.Maps.{ends_low}
+use Rattle.guest_model.specs.declared.Area.{Area}
+use Rattle.guest_mem.proofs.Added.{sound_added}
+use Rattle.guest_mem.proofs.Growing.{gained, heap_seen, grown_added, gained_untouched, space_grown, some_low, rounded_order}
+use Rattle.guest_mem.proofs.Mapping.{none_given}
+use Rattle.guest_mem.proofs.space.Space.extend_heap.Goals as goal
+
+abbrev no_area : Area
+no_area = record { start = 0; end = 0; read = false; write = false; execute = false }
+
+pub overflow_sub-place : goal.overflow_sub-place
+overflow_sub-place c =
+    let last : IsAfterLastMatch ends_low c.self.inside.areas.items c.behind_heap-place.result = rw c.deref.ensures.0 at c.behind_heap-place.ensures.last in
+    some_low c.self.inside.areas.items _ c.self.inside.pages _ _ c.behind_heap-place.result c.self.invariant last
+
+pub fill-requires-clause-order : goal.fill-requires-clause-order
+fill-requires-clause-order c =
+    let heap = heap_seen c.self.inside.areas.items _ _ c.self.inside.pages _ _ c.behind_heap-place.result no_area c.self.invariant c.deref.ensures.0 c.behind_heap-place.ensures.last c.behind_heap-place.ensures.within in
+    let ends = heap.ends in
+    let to : c.self.inside.heap_break ≤ c.args.to = omega (arith, c.requires.order, ap (λ m. m.space.heap_break) c.self.view_is) in
+    rw (c.deref-2.ensures.0, c.rounded_up.ensures) (omega (arith, ends, to))
+
+pub invariant_of-self : goal.invariant_of-self
+invariant_of-self c =
+    let heap = heap_seen c.self.inside.areas.items _ _ c.self.inside.pages _ _ c.behind_heap-place.result no_area c.self.invariant c.deref.ensures.0 c.behind_heap-place.ensures.last c.behind_heap-place.ensures.within in
+    let order : c.self.inside.heap_break ≤ c.args.to = omega (arith, c.requires.order, ap (λ m. m.space.heap_break) c.self.view_is) in
+    let few : page_count c.self.inside.areas.items + (rounded_up c.args.to - rounded_up c.self.inside.heap_break) / 4096 ≤ 16384 =
+    rw (sym (ap (λ m. m.space.areas) c.self.view_is), sym (ap (λ m. m.space.heap_break) c.self.view_is)) at c.requires.pages in
+    let x = get_or c.self.inside.areas.items (c.behind_heap-place.result - 1) no_area in
+    rw (c.end_at.ensures no_area, c.rounded_up.ensures)
+    (sound_added (gained x (rounded_up c.args.to)) c.self.inside.areas.items _ c.self.inside.rights.items _ c.self.inside.pages c.self.inside.pages _ _ _ _ x.end [] c.of.result
+    c.self.invariant (grown_added c.self.inside.areas.items _ c.self.inside.pages _ _ c.args.to c.behind_heap-place.result no_area c.self.invariant heap order c.requires.high few)
+    (record { from = omega arith; within = let le = rounded_order c.self.inside.heap_break c.args.to order in let ends = heap.ends in omega arith })
+    (gained_untouched x c.self.inside.areas.items _ c.self.inside.pages _ _ c.args.to c.self.invariant heap.ends c.requires.high)
+    (none_given x.end c.self.inside.pages.flat_bytes) c.self.invariant.pages_len refl refl
+    (rw (c.deref-2.ensures.0, c.rounded_up.ensures) at c.of.ensures) c.fill.ensures.len (rw (c.deref-2.ensures.0, c.rounded_up.ensures) at c.fill.ensures.rights))
+
+pub returns-clause-space : goal.returns-clause-space
+returns-clause-space c =
+    let heap = heap_seen c.self.inside.areas.items _ _ c.self.inside.pages _ _ c.behind_heap-place.result no_area c.self.invariant c.deref.ensures.0 c.behind_heap-place.ensures.last c.behind_heap-place.ensures.within in
+    let order : c.self.inside.heap_break ≤ c.args.to = omega (arith, c.requires.order, ap (λ m. m.space.heap_break) c.self.view_is) in
+    let few : page_count c.self.inside.areas.items + (rounded_up c.args.to - rounded_up c.self.inside.heap_break) / 4096 ≤ 16384 =
+    rw (sym (ap (λ m. m.space.areas) c.self.view_is), sym (ap (λ m. m.space.heap_break) c.self.view_is)) at c.requires.pages in
+    rw (c.end_at.ensures no_area, c.rounded_up.ensures)
+    (space_grown c.args.self.now.space c.self.inside.areas.items c.self.inside.pages.flat_bytes _ _ c.args.to c.behind_heap-place.result no_area (ap (λ m. m.space) c.self.view_is) c.self.invariant.rest_zero heap
+    (grown_added c.self.inside.areas.items _ c.self.inside.pages _ _ c.args.to c.behind_heap-place.result no_area c.self.invariant heap order c.requires.high few))
