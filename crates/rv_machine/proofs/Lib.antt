@@ -1,3 +1,3 @@
-pub mod File
-pub mod Permitted
-pub mod Loaded
+pub mod Frames
+pub mod Words
+pub mod Segments

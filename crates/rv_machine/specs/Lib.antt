@@ -1,3 +1,4 @@
+pub mod Guest
 pub mod Step
-pub mod Memory
 pub mod Load
+pub mod Lending

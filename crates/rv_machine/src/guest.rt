@@ -1,15 +1,12 @@
 // The machine with its memory.
-ghost use Rattle.std.specs.Prelude.{◌≡◌, ◌<◌, MatchOption, false, true};
-ghost use Rattle.guest_model.specs.Areas.{is_range_permitted};
-ghost use Rattle.guest_model.specs.Bytes.{bytes_at};
-ghost use Rattle.guest_model.specs.Effect.{effect_of};
-ghost use Rattle.guest_model.specs.Effect as effects;
+ghost use Rattle.std.specs.Prelude.{◌≡◌, ◌<◌};
+ghost use Rattle.std.specs.Borrow.{sem};
 ghost use Rattle.guest_model.specs.Machine.{register, instruction_at};
 ghost use Rattle.guest_model.specs.Call.{finished};
-ghost use Rattle.guest_model.specs.declared.Access.TheVariants.{Read};
+ghost use Rattle.rv_machine.specs.Guest.{machine};
+ghost use Rattle.rv_machine.specs.Lending.{LendsMemory};
 
-use crate::memory::Memory;
-use guest_model::Access;
+use guest_mem::Space;
 use rv_isa::{Instr, decode};
 use std::marker::Model;
 
@@ -18,19 +15,19 @@ use std::marker::Model;
 pub struct Guest {
     pub(crate) pc: u32,
     pub(crate) registers: [u32; 32],
-    pub(crate) memory: Memory,
+    pub(crate) memory: Space,
     pub(crate) fresh: bool,
 }
 
 impl Model for Guest {
     ghost use Rattle.std.specs.Prelude.{◌≡◌, slice_index};
-    ghost use Rattle.guest_model.specs.Machine.{Machine, machine_code};
+    ghost use Rattle.rv_machine.specs.Guest.{GuestState, guest_code};
 
-    ghost Value = { Machine };
+    ghost Value = { GuestState };
 
-    ghost coded = { machine_code };
+    ghost coded = { guest_code };
 
-    ghost view = { λ g. record { pc = g.pc; registers = g.registers; space = g.memory; fresh = g.fresh } };
+    ghost view = { λ g. record { pc = g.pc; registers = g.registers; memory = g.memory; fresh = g.fresh } };
 
     ghost invariant = { λ g. slice_index g.registers 0 ≡ 0 };
 }
@@ -46,7 +43,7 @@ impl Guest {
     /// The value of register `n`.
     pub fn reg(&self, n: u8) -> u32
         requires { n < 32 }
-        ensures { result ≡ register self.now n }
+        ensures { result ≡ register (machine self.now) n }
     {
         self.registers[n as usize]
     }
@@ -60,26 +57,34 @@ impl Guest {
 
     /// The instruction at pc. None where the fetch is denied or the word has no row in the table.
     pub fn peek(&self) -> Option<Instr>
-        ensures { result ≡ instruction_at self.now }
+        ensures { result ≡ instruction_at (machine self.now) }
     {
-        let word = self.memory.read(Access::Execute, self.pc, 4)?;
-        decode(word)
+        match self.memory.fetch(self.pc) {
+            Ok(word) => decode(word),
+            Err(_) => None,
+        }
     }
 
-    /// The `len` bytes from `at` on, or None where one of them may not be read. A range of length 0 is always readable,
-    /// and one that passes 2^32 is not.
-    pub fn bytes(&self, at: u32, len: u32) -> Option<&[u8]>
-        ensures { MatchOption result (is_range_permitted Read self.now.space.areas at len ≡ false)
-            (λ bytes. (is_range_permitted Read self.now.space.areas at len ≡ true) × (bytes.now ≡ bytes_at self.now.space.bytes at len)) }
+    /// The memory.
+    pub fn space(&self) -> &Space
+        ensures { result.now ≡ self.now.memory }
     {
-        self.memory.range(at, len)
+        &self.memory
+    }
+
+    /// The memory, to change it.
+    pub fn space_mut(&mut self) -> &mut Space
+        ensures* leaves { sem 𝓛 (LendsMemory self.entry result) }
+        ensures memory { result.now ≡ self.old.memory }
+    {
+        &mut self.memory
     }
 
     /// Goes on behind the call at pc, with its result in x10.
     #[tactic(auto, unfolding(guest_model::specs::Call::finished))]
     pub fn finish_call(&mut self, answer: u32)
-        requires { effect_of self.old ≡ effects.Call }
-        ensures { self.new ≡ finished self.old answer }
+        ensures machine { machine self.new ≡ finished (machine self.old) answer }
+        ensures memory { self.new.memory ≡ self.old.memory }
     {
         self.registers[10] = answer;
         self.pc = self.pc.wrapping_add(4);

@@ -3,7 +3,9 @@
 
 mod guest;
 mod load;
-mod memory;
+#[cfg(test)]
+mod load_tests;
+mod stack;
 mod step;
 #[cfg(test)]
 mod tests;

@@ -1,14 +1,22 @@
 // A guest at position 0.
-ghost use Rattle.std.specs.Prelude.{◌≡◌, ◌≤◌, length, map, All, string_bytes, string_len, IfOk, IfErr};
+ghost use Rattle.std.specs.Prelude.{◌≡◌, ◌-◌, ◌^◌, ◌≤◌, All, IfOk, map, min, string_bytes};
 ghost use Rattle.elf_load.specs.Image.{IsSegment};
-ghost use Rattle.rv_machine.specs.Load.{machine_of, first_bytes, stack_pointer_of};
+ghost use Rattle.guest_mem.specs.Memory.{HasFreeFrames};
+ghost use Rattle.rv_machine.specs.Load.{LoadGives, area_of, first_break, segments_space, strings_size};
 ghost use Rattle.rv_machine.specs.declared.load.LoadFault.TheVariants.{NoMemory};
 
 use crate::guest::Guest;
-use crate::memory::Memory;
-use elf_load::image::{Image, Segment};
+use crate::stack::{RANDOM, STACK, first_stack, stack_pointer};
+use elf_load::{Image, Segment};
+use guest_mem::Space;
+use guest_model::Area;
 use std::alloc::{AllocError, Global};
 use thiserror::Error;
+
+/// The most bytes of the argument strings, with a zero byte each.
+const MOST_STRINGS: u64 = 65_536;
+
+const PAGE: u32 = 4096;
 
 /// Why a guest was not made.
 #[derive(Clone, Copy, Debug, PartialEq, Eq, Error)]
@@ -28,51 +36,88 @@ impl From<AllocError> for LoadFault {
 }
 
 impl Guest {
-    /// The guest that runs an image from its first instruction on, with its first segment at 0x10000. `args` has one
-    /// string, of 1 to 255 bytes. `frames`, the number of frames that its memory may take, is not used yet: a guest's
-    /// memory is the file.
+    /// The guest that runs an image from its first instruction on. Its stack has the argument strings, the first of which is
+    /// by custom the program's name, and the auxiliary vector. `frames` pages, at most 16,384, can be written until there
+    /// is no frame more; no page counts as written yet.
     ///
     /// # Errors
-    /// `NoMemory` where there is no memory for the guest.
+    /// `ArgsTooLong` where the strings with a zero byte each have more than 65,536 bytes; `NoMemory` where there is no memory
+    /// for the guest.
     pub fn load(
         alloc: Global,
         image: &Image,
         args: &[String],
         frames: u32,
     ) -> Result<Guest, LoadFault>
-        requires one { length args.now ≡ 1 }
-        requires sizes { All (λ a. (1 ≤ string_len a) × (string_len a ≤ 255)) args.now }
-        ensures ok { IfOk result (λ guest. guest ≡ machine_of image.now (map string_bytes args.now)) }
-        ensures err { IfErr result (λ e. e ≡ LoadFault.NoMemory) }
+        requires frames { frames ≤ 16384 }
+        ensures { LoadGives image.now (map string_bytes args.now) frames result }
     {
-        let bytes = first_bytes(alloc, &image.segments)?;
+        let bytes = strings_size(args);
+        if bytes > MOST_STRINGS {
+            return Err(LoadFault::ArgsTooLong { bytes });
+        }
+        let strings = RANDOM - bytes as u32;
+        let pointer = stack_pointer(args.len(), strings);
+        let stack = first_stack(alloc, image, args, strings, pointer)?;
         let mut registers = [0; 32];
-        registers[2] = stack_pointer(args);
-        Ok(Guest {
+        registers[2] = pointer;
+        let mut guest = Guest {
             pc: image.entry,
             registers,
-            memory: Memory::with_file(bytes)?,
+            memory: segments_space(alloc, image, frames)?,
             fresh: true,
-        })
+        };
+        guest.memory.add_area(STACK, pointer, &stack)?;
+        Ok(guest)
     }
 }
 
-// The bytes of the first segment.
-fn first_bytes(alloc: Global, segments: &[Segment]) -> Result<Vec<u8>, AllocError>
-    ensures { IfOk result (λ bytes. bytes.items ≡ first_bytes segments.now) }
+// How many bytes the strings have with a zero byte each. The number stands still at 2^64 - 1.
+fn strings_size(args: &[String]) -> u64
+    ensures { result ≡ min (strings_size (map string_bytes args.now)) (2 ^ 64 - 1) }
 {
-    match segments {
-        [] => Ok(Vec::new(alloc)),
-        [first, ..] => first.bytes.to_vec(alloc),
+    let mut bytes = 0u64;
+    for arg in args {
+        bytes = bytes.saturating_add(arg.len() as u64).saturating_add(1);
+    }
+    bytes
+}
+
+// The whole pages that a segment is in, with its permissions.
+fn area_of(segment: &Segment) -> Area
+    requires { IsSegment segment.now }
+    ensures { result ≡ area_of segment.now }
+{
+    Area {
+        start: segment.start / PAGE * PAGE,
+        end: (segment.start + segment.size + PAGE - 1) / PAGE * PAGE,
+        read: segment.flags & 4 != 0,
+        write: segment.flags & 2 != 0,
+        execute: segment.flags & 1 != 0,
     }
 }
 
-// The first stack pointer, above which the string and the addresses of one argument have room.
-fn stack_pointer(args: &[String]) -> u32
-    requires one { length args.now ≡ 1 }
-    requires sizes { All (λ a. (1 ≤ string_len a) × (string_len a ≤ 255)) args.now }
-    ensures { result ≡ stack_pointer_of (map string_bytes args.now) }
+// Where the heap begins.
+fn first_break(segments: &[Segment]) -> u32
+    requires { All IsSegment segments.now }
+    ensures { result ≡ first_break segments.now }
 {
-    let strings = args[0].len() as u32 + 1;
-    (0x7FFF_EFF0 - strings - 4 * 18) / 16 * 16
+    let mut heap = 0;
+    for segment in segments {
+        heap = heap.max(area_of(segment).end);
+    }
+    heap
+}
+
+// The segments and an empty heap behind them.
+fn segments_space(alloc: Global, image: &Image, frames: u32) -> Result<Space, AllocError>
+    requires { frames ≤ 16384 }
+    ensures space { IfOk result (λ m. m.space ≡ segments_space image.now.segments) }
+    ensures frames { IfOk result (λ m. HasFreeFrames m frames) }
+{
+    let mut memory = Space::empty(alloc, first_break(&image.segments), frames)?;
+    for segment in &image.segments {
+        memory.add_area(area_of(segment), segment.start, &segment.bytes)?;
+    }
+    Ok(memory)
 }

@@ -1,13 +1,16 @@
 // One step: fetch, decode, carry out.
-ghost use Rattle.std.specs.Prelude.{◌≡◌, ◌<◌};
-ghost use Rattle.guest_model.specs.Effect.{effect_of, effect_by, rs1_value, rs2_value, immediate, address, target, moved, written, writes, computes, jumps, branches, loads, stores};
+ghost use Rattle.std.specs.Prelude.{◌≡◌, ◌<◌, true};
+ghost use Rattle.guest_model.specs.Areas.{all_permitted};
+ghost use Rattle.guest_model.specs.Effect.{effect_of, effect_by, rs1_value, rs2_value, immediate, address, target, moved, written, writes, computes, jumps, branches, loads, stores, stored_size};
 ghost use Rattle.guest_model.specs.Effect as effects;
 ghost use Rattle.guest_model.specs.Machine.{following};
+ghost use Rattle.guest_model.specs.declared.Access.TheVariants.{Write};
+ghost use Rattle.guest_mem.specs.Memory.{HasFrames, TakesFrames};
 ghost use Rattle.rv_isa.specs.Kinds.{size_of};
-ghost use Rattle.rv_machine.specs.Step.{Gives, status_of};
+ghost use Rattle.rv_machine.specs.Guest.{machine};
+ghost use Rattle.rv_machine.specs.Step.{Gives, StepHasFrames, StepTakesFrames, status_of};
 
 use crate::guest::Guest;
-use guest_model::Access;
 use rv_isa::{Instr, Op, alu, decode, is_taken, is_terminator, loaded, mem_size};
 
 /// The kinds of faults, by the numbers of their signals.
@@ -56,9 +59,12 @@ impl Guest {
     /// Tries the instruction at pc.
     #[tactic(auto, unfolding(guest_model::specs::Effect::effect_of))]
     pub fn step(&mut self) -> Stepped
-        ensures { Gives (effect_of self.old) result self.old self.new }
+        requires frames { StepHasFrames self.old }
+        ensures gives { Gives (effect_of (machine self.old)) result self.old self.new }
+        ensures frames { StepTakesFrames result self.old self.new }
+        ensures all_frames { self.new.memory.frames ≡ self.old.memory.frames }
     {
-        let Some(word) = self.memory.read(Access::Execute, self.pc, 4) else {
+        let Ok(word) = self.memory.fetch(self.pc) else {
             return Stepped::Fault(FaultKind::Access);
         };
         let Some(i) = decode(word) else {
@@ -69,7 +75,12 @@ impl Guest {
 
     // Carries out an instruction.
     fn carry_out(&mut self, i: &Instr) -> Stepped
-        ensures { Gives (effect_by i.now.op self.old i.now) result self.old self.new }
+        requires frames { all_permitted Write self.old.memory.space.areas (address (machine self.old) i.now) (stored_size i.now.op) ≡ true
+            → HasFrames self.old.memory (address (machine self.old) i.now) (stored_size i.now.op) }
+        ensures gives { Gives (effect_by i.now.op (machine self.old) i.now) result self.old self.new }
+        ensures memory { stored_size i.now.op ≡ 0 → self.new.memory ≡ self.old.memory }
+        ensures frames { 0 < stored_size i.now.op → result ≡ Stepped.Next
+            → TakesFrames self.old.memory self.new.memory (address (machine self.old) i.now) (stored_size i.now.op) }
     {
         match i.op {
             Op::Lui => self.write(i, immediate(i)),
@@ -90,40 +101,41 @@ impl Guest {
     }
 
     fn rs1(&self, i: &Instr) -> u32
-        ensures { result ≡ rs1_value self.now i.now }
+        ensures { result ≡ rs1_value (machine self.now) i.now }
     {
         self.reg(i.rs1)
     }
 
     fn rs2(&self, i: &Instr) -> u32
-        ensures { result ≡ rs2_value self.now i.now }
+        ensures { result ≡ rs2_value (machine self.now) i.now }
     {
         self.reg(i.rs2)
     }
 
     // Where a load, a store or a jump by a register goes.
     fn address(&self, i: &Instr) -> u32
-        ensures { result ≡ address self.now i.now }
+        ensures { result ≡ address (machine self.now) i.now }
     {
         self.rs1(i).wrapping_add(immediate(i))
     }
 
     // Where a branch or a jump from pc goes.
     fn target(&self, i: &Instr) -> u32
-        ensures { result ≡ target self.now i.now }
+        ensures { result ≡ target (machine self.now) i.now }
     {
         self.pc.wrapping_add(immediate(i))
     }
 
     fn following(&self) -> u32
-        ensures { result ≡ following self.now }
+        ensures { result ≡ following (machine self.now) }
     {
         self.pc.wrapping_add(4)
     }
 
     // Goes to `next`.
     fn move_to(&mut self, i: &Instr, next: u32)
-        ensures { self.new ≡ moved self.old i.now next }
+        ensures machine { machine self.new ≡ moved (machine self.old) i.now next }
+        ensures memory { self.new.memory ≡ self.old.memory }
     {
         self.pc = next;
         self.fresh = is_terminator(i);
@@ -131,7 +143,8 @@ impl Guest {
 
     // Goes to `next`, with a value in rd; x0 stays 0.
     fn write_and_move(&mut self, i: &Instr, value: u32, next: u32)
-        ensures { self.new ≡ written self.old i.now value next }
+        ensures machine { machine self.new ≡ written (machine self.old) i.now value next }
+        ensures memory { self.new.memory ≡ self.old.memory }
     {
         if i.rd != 0 {
             self.registers[i.rd as usize] = value;
@@ -140,21 +153,24 @@ impl Guest {
     }
 
     fn go_on(&mut self, i: &Instr) -> Stepped
-        ensures { Gives (effects.Next (moved self.old i.now (following self.old))) result self.old self.new }
+        ensures gives { Gives (effects.Next (moved (machine self.old) i.now (following (machine self.old)))) result self.old self.new }
+        ensures memory { self.new.memory ≡ self.old.memory }
     {
         self.move_to(i, self.following());
         Stepped::Next
     }
 
     fn write(&mut self, i: &Instr, value: u32) -> Stepped
-        ensures { Gives (writes self.old i.now value) result self.old self.new }
+        ensures gives { Gives (writes (machine self.old) i.now value) result self.old self.new }
+        ensures memory { self.new.memory ≡ self.old.memory }
     {
         self.write_and_move(i, value, self.following());
         Stepped::Next
     }
 
     fn compute(&mut self, i: &Instr, operand: u32) -> Stepped
-        ensures { Gives (computes self.old i.now operand) result self.old self.new }
+        ensures gives { Gives (computes (machine self.old) i.now operand) result self.old self.new }
+        ensures memory { self.new.memory ≡ self.old.memory }
     {
         match alu(i.op, self.rs1(i), operand) {
             Some(value) => self.write(i, value),
@@ -163,7 +179,8 @@ impl Guest {
     }
 
     fn jump(&mut self, i: &Instr, to: u32) -> Stepped
-        ensures { Gives (jumps self.old i.now to) result self.old self.new }
+        ensures gives { Gives (jumps (machine self.old) i.now to) result self.old self.new }
+        ensures memory { self.new.memory ≡ self.old.memory }
     {
         if to % 4 != 0 {
             return Stepped::Fault(FaultKind::Misaligned);
@@ -173,7 +190,8 @@ impl Guest {
     }
 
     fn branch(&mut self, i: &Instr) -> Stepped
-        ensures { Gives (branches self.old i.now) result self.old self.new }
+        ensures gives { Gives (branches (machine self.old) i.now) result self.old self.new }
+        ensures memory { self.new.memory ≡ self.old.memory }
     {
         if !is_taken(i.op, self.rs1(i), self.rs2(i)) {
             return self.go_on(i);
@@ -188,21 +206,25 @@ impl Guest {
 
     fn load_register(&mut self, i: &Instr) -> Stepped
         requires { 0 < size_of i.now.op }
-        ensures { Gives (loads self.old i.now) result self.old self.new }
+        ensures gives { Gives (loads (machine self.old) i.now) result self.old self.new }
+        ensures memory { self.new.memory ≡ self.old.memory }
     {
-        match self.memory.read(Access::Read, self.address(i), mem_size(i)) {
-            Some(value) => self.write(i, loaded(i.op, value)),
-            None => Stepped::Fault(FaultKind::Access),
+        match self.memory.load(self.address(i), mem_size(i)) {
+            Ok(value) => self.write(i, loaded(i.op, value)),
+            Err(_) => Stepped::Fault(FaultKind::Access),
         }
     }
 
     fn store(&mut self, i: &Instr) -> Stepped
-        requires { 0 < size_of i.now.op }
-        ensures { Gives (stores self.old i.now) result self.old self.new }
+        requires size { 0 < size_of i.now.op }
+        requires frames { all_permitted Write self.old.memory.space.areas (address (machine self.old) i.now) (size_of i.now.op) ≡ true
+            → HasFrames self.old.memory (address (machine self.old) i.now) (size_of i.now.op) }
+        ensures gives { Gives (stores (machine self.old) i.now) result self.old self.new }
+        ensures frames { result ≡ Stepped.Next → TakesFrames self.old.memory self.new.memory (address (machine self.old) i.now) (size_of i.now.op) }
     {
         let at = self.address(i);
         let value = self.rs2(i);
-        if !self.memory.write(at, mem_size(i), value) {
+        if self.memory.store(at, mem_size(i), value).is_err() {
             return Stepped::Fault(FaultKind::Access);
         }
         self.go_on(i)

@@ -1,5 +1,5 @@
 // Guests whose words were encoded by hand from the manual's formats.
-ghost use Rattle.std.specs.Prelude.{◌<◌};
+ghost use Rattle.std.specs.Prelude.{◌≡◌, ◌<◌, IfOk};
 
 use crate::{End, FaultKind, Guest, Stepped};
 use rv_isa::Op;
@@ -14,24 +14,32 @@ const HEADERS: [u32; 21] = [
     0x00010000, 0x00000000, 0x00000000, 0x00000005, 0x00001000,
 ];
 
-// The file of these words of code, of which there are a few.
-fn file_of(alloc: Global, code: &[u32]) -> Result<Vec<u8>, AllocError> {
-    let mut headers = HEADERS;
-    let size = (84 + 4 * (code.len() % 1024)) as u32;
-    headers[17] = size;
-    headers[18] = size;
+// The same, with a second segment: two pages of data at 0x20000 that have no bytes in the file.
+const TWO_SEGMENTS: [u32; 29] = [
+    0x464c457f, 0x00010101, 0x00000000, 0x00000000, 0x00f30002, 0x00000001, 0x00010074, 0x00000034,
+    0x00000000, 0x00000000, 0x00200034, 0x00280002, 0x00000000, 0x00000001, 0x00000000, 0x00010000,
+    0x00010000, 0x00000000, 0x00000000, 0x00000005, 0x00001000, 0x00000001, 0x00000000, 0x00020000,
+    0x00020000, 0x00000000, 0x00002000, 0x00000006, 0x00001000,
+];
+
+// The file of these headers and these words of code, of which there are a few.
+fn file_of(alloc: Global, headers: &[u32], code: &[u32]) -> Result<Vec<u8>, AllocError> {
+    let size = 4 * (headers.len() % 32 + code.len() % 1024) as u32;
     let mut bytes = Vec::new(alloc);
-    for word in headers.iter().chain(code) {
+    for (k, word) in headers.iter().chain(code).enumerate() {
+        let word = if k == 17 || k == 18 { size } else { *word };
         bytes.extend_from_slice(&word.to_le_bytes())?;
     }
     Ok(bytes)
 }
 
-// The guest of these words, with the argument `a`.
-fn guest_of(alloc: Global, code: &[u32]) -> Result<Guest, Fail> {
-    let file = file_of(alloc, code)?;
-    let image = elf_load::load(alloc, &file)?.ok_or("refused")?;
-    Ok(Guest::load(alloc, &image, &[String::from_str(alloc, "a")?], 0)?)
+// The guest of that file, with the argument `a` and a frame for each page that it can have.
+fn guest_of(alloc: Global, headers: &[u32], code: &[u32]) -> Result<Guest, Fail>
+    ensures { IfOk result (λ guest. guest.memory.frames ≡ 16384) }
+{
+    let file = file_of(alloc, headers, code)?;
+    let image = elf_load::load(alloc, &file)?;
+    Ok(Guest::load(alloc, &image, &[String::from_str(alloc, "a")?], 16384)?)
 }
 
 // li x17, 93; li x10, 7; ecall
@@ -39,7 +47,7 @@ const EXIT_7: [u32; 3] = [0x05d00893, 0x00700513, 0x00000073];
 
 #[test]
 fn exit_7(rt: HostRuntime) -> Result<(), Fail> {
-    let mut guest = guest_of(rt.alloc(), &EXIT_7)?;
+    let mut guest = guest_of(rt.alloc(), &HEADERS, &EXIT_7)?;
     assert_eq!(rt;
         (guest.pc(), guest.reg(2), guest.reg(31), guest.fresh()),
         (0x10054, 0x7fff_efa0, 0, true)
@@ -68,24 +76,6 @@ fn exit_7(rt: HostRuntime) -> Result<(), Fail> {
 }
 
 #[test]
-fn bytes_of_a_file(rt: HostRuntime) -> Result<(), Fail> {
-    let guest = guest_of(rt.alloc(), &EXIT_7)?;
-    assert!(rt; guest.bytes(0x10000, 4) == Some([0x7f, 0x45, 0x4c, 0x46].as_slice()));
-    assert!(rt; guest.bytes(0x1005c, 8) == Some([0x73, 0, 0, 0, 0, 0, 0, 0].as_slice()));
-    assert!(rt; guest.bytes(0x10ffd, 3) == Some([0, 0, 0].as_slice()));
-    assert!(rt; guest.bytes(0, 0) == Some([].as_slice()));
-    for (at, len) in [
-        (0x10ffd, 4),
-        (0xffff, 2),
-        (0xffff_ffff, 1),
-        (0x10000, 0xffff_ffff),
-    ] {
-        assert!(rt; guest.bytes(at, len).is_none(), "at {at:#x}");
-    }
-    Ok(())
-}
-
-#[test]
 fn statuses(rt: HostRuntime) {
     let fault = End::Signal {
         kind: FaultKind::Access,
@@ -106,13 +96,21 @@ fn expect_end(
 ) -> Result<(), Fail>
     requires { register < 32 }
 {
-    let mut guest = guest_of(rt.alloc(), code)?;
+    let mut guest = guest_of(rt.alloc(), &HEADERS, code)?;
+    expect_last(rt, &mut guest, steps, last);
+    assert_eq!(rt; (guest.pc(), guest.reg(register)), (pc, value));
+    Ok(())
+}
+
+// The answer of a step after `steps` others that complete.
+fn expect_last(rt: &impl Abort, guest: &mut Guest, steps: u32, last: Stepped)
+    requires { guest.old.memory.frames ≡ 16384 }
+    ensures { guest.new.memory.frames ≡ 16384 }
+{
     for _i in 0..steps {
         assert_eq!(rt; guest.step(), Stepped::Next);
     }
     assert_eq!(rt; guest.step(), last);
-    assert_eq!(rt; (guest.pc(), guest.reg(register)), (pc, value));
-    Ok(())
 }
 
 #[test]
@@ -196,6 +194,53 @@ fn loads_and_stores(rt: HostRuntime) -> Result<(), Fail> {
         5,
         0x11000,
     )
+}
+
+// lui x5, 0x21; lui x6, 0x12345; addi x6, x6, 0x678; sw x6, -2(x5); lw x7, -2(x5); lbu x8, 0(x5)
+const ACROSS_PAGES: [u32; 6] = [
+    0x000212b7, 0x12345337, 0x67830313, 0xfe62af23, 0xffe2a383, 0x0002c403,
+];
+
+#[test]
+fn a_store_across_pages(rt: HostRuntime) -> Result<(), Fail> {
+    let mut guest = guest_of(rt.alloc(), &TWO_SEGMENTS, &ACROSS_PAGES)?;
+    expect_last(&rt, &mut guest, 2, Stepped::Next);
+    assert_eq!(rt; (guest.space().written(), guest.space().free()), (0, 16384));
+    expect_last(&rt, &mut guest, 1, Stepped::Next);
+    assert_eq!(rt; (guest.reg(7), guest.pc()), (0x1234_5678, 0x10088));
+    assert_eq!(rt; (guest.space().written(), guest.space().free()), (2, 16382));
+    expect_last(&rt, &mut guest, 0, Stepped::Next);
+    assert_eq!(rt; (guest.reg(8), guest.pc()), (0x34, 0x1008c));
+    Ok(())
+}
+
+// What the areas do not permit: two words of code, of which the first completes; how many complete; and the pc then.
+const DENIED: [([u32; 2], u32, u32); 3] = [
+    // lui x5, 0x22; lw x6, -2(x5)
+    ([0x000222b7, 0xffe2a303], 1, 0x10078),
+    // lui x5, 0x10; sw x5, 0(x5)
+    ([0x000102b7, 0x0052a023], 1, 0x10078),
+    // lui x5, 0x20; jalr x1, 0(x5)
+    ([0x000202b7, 0x000280e7], 2, 0x20000),
+];
+
+#[test]
+fn areas_deny(rt: HostRuntime) -> Result<(), Fail> {
+    for (code, steps, pc) in DENIED {
+        let mut guest = guest_of(rt.alloc(), &TWO_SEGMENTS, &code)?;
+        expect_last(&rt, &mut guest, steps, Stepped::Fault(FaultKind::Access));
+        assert_eq!(rt; guest.pc(), pc);
+    }
+    Ok(())
+}
+
+#[test]
+fn its_memory_can_be_changed(rt: HostRuntime) -> Result<(), Fail> {
+    let mut guest = guest_of(rt.alloc(), &TWO_SEGMENTS, &EXIT_7)?;
+    assert_eq!(rt; guest.space_mut().store(0x20000, 4, 7), Ok(()));
+    assert_eq!(rt; guest.space().load(0x20000, 4), Ok(7));
+    assert_eq!(rt; (guest.pc(), guest.reg(17)), (0x10074, 0));
+    Ok(())
 }
 
 #[test]

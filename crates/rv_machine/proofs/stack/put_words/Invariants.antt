@@ -1,0 +1,8 @@
+use Rattle.std.proofs.Common.{◌≡◌, ◌++◌, take}
+use Rattle.std.specs.List.{flat_map}
+use Rattle.guest_model.specs.Bytes.{low_bytes}
+use Rattle.rv_machine.proofs.stack.put_words.Given as goal
+
+-- the words so far are put
+abbrev pub invariant-loop-word : goal.invariant-loop-word
+invariant-loop-word l = l.bytes.items ≡ l.initial.bytes.items ++ flat_map (low_bytes 4) (take l.word-index l.words)
