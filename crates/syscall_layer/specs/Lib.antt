@@ -1,0 +1,5 @@
+pub mod Serve
+pub mod Frames
+pub mod Input
+pub mod Went
+pub mod Vectors
