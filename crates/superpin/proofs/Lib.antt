@@ -1,9 +1,9 @@
-pub mod Texts
 pub mod Steps
 pub mod Runs
-pub mod Gives
+pub mod Plain
+pub mod Causes
 pub mod Outcomes
+pub mod Ready
 pub mod Fronts
 pub mod Headline
-pub mod Ready
-pub mod Same
+pub mod Texts

@@ -1,112 +1,107 @@
 -- One step of the run, by what the instruction at pc does.
-use Rattle.std.proofs.Common.{◌≡◌, ◌≢◌, ℕ, ◌+◌, ◌%◌, List, [], ◌∷◌, refl, ap, ◌∙◌, arith}
-use Rattle.std.specs.Prelude.{true, false, Bool, ◌==◌, not, ◌||◌, ◌&&◌, if◌then◌else◌}
-use Rattle.std.proofs.lemmas.Bool.Decides.{nat_tests}
-use Rattle.guest_model.specs.Areas.{is_range_permitted}
-use Rattle.guest_model.specs.Bytes.{bytes_at}
-use Rattle.guest_model.specs.Machine.{Machine, instruction_at}
+use Rattle.std.proofs.Common.{◌≡◌, ℕ, ◌+◌, List, [], ◌++◌, refl, sym, ap, subst, ◌∙◌}
+use Rattle.std.specs.Prelude.{Ok, Err}
+use Rattle.std.proofs.lemmas.List.{append-nil}
+use Rattle.sp_host.specs.Told.{Told}
+use Rattle.sp_host.specs.declared.host.Port.{Port}
+use Rattle.guest_model.specs.Machine.{Machine}
 use Rattle.guest_model.specs.Effect.{Effect, effect_of}
-use Rattle.guest_model.specs.Call.{World, Sent, Called, Exits, Untabled, call_of, call_number, argument, finished, went, call_by}
+use Rattle.guest_model.specs.Call.{World, Sent, Called, Went, Exits, Untabled, call_of, asked_size}
 use Rattle.guest_model.specs.Runs.{Stand, Goes, Over}
-use Rattle.guest_model.specs.Serial.{Place, step_of, sent_at, step_by, step_by_call, sent_by, sent_by_call}
-use Rattle.guest_model.specs.declared.Access.TheVariants.{Read}
-use Rattle.superpin.specs.Built.{Stop, Exit, Signal, NotBuilt, stays_inside, is_built_call, is_built_by, is_built, stand_of, built_step, built_sent_at}
-
--- a step that is built
-pub built_step-true : (p : Place) → is_built p.machine ≡ true → built_step p ≡ stand_of (step_of p)
-unfolding built_step
-built_step-true p h = ap (λ (b : Bool). if b then stand_of (step_of p) else Over p NotBuilt) h
-
-pub built_step-false : (p : Place) → is_built p.machine ≡ false → built_step p ≡ Over p NotBuilt
-unfolding built_step
-built_step-false p h = ap (λ (b : Bool). if b then stand_of (step_of p) else Over p NotBuilt) h
-
-pub built_sent_at-true : (p : Place) → is_built p.machine ≡ true → built_sent_at p ≡ sent_at p
-unfolding built_sent_at
-built_sent_at-true p h = ap (λ (b : Bool). if b then sent_at p else []) h
-
-pub built_sent_at-false : (p : Place) → is_built p.machine ≡ false → built_sent_at p ≡ []
-unfolding built_sent_at
-built_sent_at-false p h = ap (λ (b : Bool). if b then sent_at p else []) h
-
-built_by : (m : Machine) (e : Effect) → effect_of m ≡ e → is_built m ≡ is_built_by m e
-unfolding is_built
-built_by m e h = ap (is_built_by m) h
-
-step_with : (p : Place) (e : Effect) → effect_of p.machine ≡ e → step_of p ≡ step_by p e
-unfolding step_of
-step_with p e h = ap (step_by p) h
-
-sent_with : (p : Place) (e : Effect) → effect_of p.machine ≡ e → sent_at p ≡ sent_by p e
-unfolding sent_at
-sent_with p e h = ap (sent_by p) h
+use Rattle.guest_model.specs.Serial.{Place, End, Exit, Signal, Unsupported, step_of, sent_at, step_by, step_by_call, sent_by, sent_by_call}
+use Rattle.call_record.specs.Record.{CallRecord}
+use Rattle.rv_machine.specs.Guest.{GuestState, machine}
+use Rattle.rv_machine.specs.Step.{kind_number}
+use Rattle.rv_machine.specs.declared.step.FaultKind.{FaultKind}
+use Rattle.rv_machine.specs.declared.step.End.TheVariants as ends
+use Rattle.syscall_layer.specs.Serve.{at, ServeGives, PartTaken, PartWritten}
+use Rattle.syscall_layer.specs.declared.fault.CallFault.TheVariants as calls
+use Rattle.syscall_layer.specs.declared.fault.RunFault.TheVariants as faults
+use Rattle.syscall_layer.specs.declared.server.Served.TheVariants as served
+use Rattle.superpin.specs.Run.{IsAt, world_of, StepGives}
+use Rattle.superpin.specs.declared.run.Turn.TheVariants as turns
 
 -- a step from p: where it leads, and what it sends
-pub record IsStep (p : Place) (stand : Stand Place Stop) (messages : List Sent) : Type 0 where
-  pub leads : built_step p ≡ stand
-  pub sends : built_sent_at p ≡ messages
+pub record IsStep (p : Place) (stand : Stand Place End) (messages : List Sent) : Type 0 where
+  pub leads : step_of p ≡ stand
+  pub sends : sent_at p ≡ messages
 
-built : (p : Place) (e : Effect) → effect_of p.machine ≡ e → is_built_by p.machine e ≡ true → IsStep p (stand_of (step_by p e)) (sent_by p e)
-built p e h is_yes =
-    let is : is_built p.machine ≡ true = built_by p.machine e h ∙ is_yes in
-    record { leads = built_step-true p is ∙ ap stand_of (step_with p e h); sends = built_sent_at-true p is ∙ sent_with p e h }
-
-not_built : (p : Place) (e : Effect) → effect_of p.machine ≡ e → is_built_by p.machine e ≡ false → IsStep p (Over p NotBuilt) []
-not_built p e h is_no =
-    let is : is_built p.machine ≡ false = built_by p.machine e h ∙ is_no in
-    record { leads = built_step-false p is; sends = built_sent_at-false p is }
-
--- an instruction that completes
-pub next_step : (p : Place) (next : Machine) → effect_of p.machine ≡ Effect.Next next → IsStep p (Goes (record p { machine = next })) []
-next_step p next h = built p (Effect.Next next) h refl
-
--- a fault
-pub fault_step : (p : Place) (kind : ℕ) → effect_of p.machine ≡ Effect.Fault kind → stays_inside p.machine (instruction_at p.machine) ≡ true → IsStep p (Over p (Signal kind p.machine.pc)) []
-fault_step p kind h inside = built p (Effect.Fault kind) h inside
-
-pub beyond_step : (p : Place) (kind : ℕ) → effect_of p.machine ≡ Effect.Fault kind → stays_inside p.machine (instruction_at p.machine) ≡ false → IsStep p (Over p NotBuilt) []
-beyond_step p kind h outside = not_built p (Effect.Fault kind) h outside
+pub step_with : (p : Place) (e : Effect) → effect_of p.machine ≡ e → IsStep p (step_by p e) (sent_by p e)
+unfolding step_of sent_at
+step_with p e h = record { leads = ap (step_by p) h; sends = ap (sent_by p) h }
 
 -- a call, by what it does
-call_step : (p : Place) (called : Called) → effect_of p.machine ≡ Effect.Call → is_built_call p.machine ≡ true → call_of p.machine p.world ≡ called → IsStep p (stand_of (step_by_call p called)) (sent_by_call called)
-call_step p called h is_yes is =
-    let step = built p Effect.Call h is_yes in
-    record { leads = step.leads ∙ ap (λ (c : Called). stand_of (step_by_call p c)) is; sends = step.sends ∙ ap sent_by_call is }
+call_with : (p : Place) (called : Called) → effect_of p.machine ≡ Effect.Call → call_of p.machine p.world ≡ called → IsStep p (step_by_call p called) (sent_by_call called)
+call_with p called h is =
+    let step = step_with p Effect.Call h in
+    record { leads = step.leads ∙ ap (step_by_call p) is; sends = step.sends ∙ ap sent_by_call is }
 
-other_number : (m : Machine) → (call_number m == 64) ≡ false → is_built_call m ≡ true
-other_number m h = ap (λ (b : Bool). not b || (argument m 0 == 1 && is_range_permitted Read m.space.areas (argument m 1) (argument m 2))) h
+-- a step that goes on
+goes : (t : Told) (p q : Place) (before messages : List Sent) (new : Told) → IsStep p (Goes q) messages → new ≡ at t q.world (before ++ messages) → StepGives t p before (Ok turns.Next) q.machine new
+goes t p q before messages new step told = (
+  subst (λ (stand : Stand Place End). IsAt stand q.machine) (sym step.leads) refl,
+  told ∙ (ap (λ (xs : List Sent). at t q.world (before ++ xs)) (sym step.sends) ∙ ap (λ (w : World). at t w (before ++ sent_at p)) (sym (ap world_of step.leads))),
+)
 
-exit_is : (m : Machine) (w : World) → call_number m ≡ 93 → call_of m w ≡ Exits (argument m 0 % 256)
-unfolding call_of
-exit_is m w h = ap (λ (n : ℕ). call_by n m w) h
+-- a step that sends nothing
+nothing_sent : (t : Told) (p : Place) (before : List Sent) (new : Told) → sent_at p ≡ [] → new ≡ at t p.world before → new ≡ at t p.world (before ++ sent_at p)
+nothing_sent t p before new none told = told ∙ ap (at t p.world) (sym (ap (λ (xs : List Sent). before ++ xs) none ∙ append-nil before))
 
-pub exit_step : (p : Place) → effect_of p.machine ≡ Effect.Call → call_number p.machine ≡ 93 → IsStep p (Over p (Exit (argument p.machine 0 % 256))) []
-exit_step p h number = call_step p (Exits (argument p.machine 0 % 256)) h (other_number p.machine (ap (λ (n : ℕ). n == 64) number)) (exit_is p.machine p.world number)
+pub next_gives : (t : Told) (p : Place) (before : List Sent) (m next : Machine) (new : Told) → p.machine ≡ m → effect_of m ≡ Effect.Next next → new ≡ at t p.world before → StepGives t p before (Ok turns.Next) next new
+next_gives t p before m next new here e told =
+    goes t p (record p { machine = next }) before [] new (step_with p (Effect.Next next) (ap effect_of here ∙ e)) (told ∙ ap (at t p.world) (sym (append-nil before)))
 
-untabled_is : (m : Machine) (w : World) → call_number m ≢ 64 → call_number m ≢ 93 → call_of m w ≡ Untabled (call_number m)
-unfolding call_of
-untabled_is m w a b = grind (arith, nat_tests)
+pub fault_gives : (t : Told) (p : Place) (before : List Sent) (m now : Machine) (new : Told) (kind : FaultKind) (pc : ℕ) → p.machine ≡ m → effect_of m ≡ Effect.Fault (kind_number kind) → now ≡ m → pc ≡ m.pc → new ≡ at t p.world before
+    → StepGives t p before (Ok (turns.Over (ends.Signal kind pc))) now new
+fault_gives t p before m now new kind pc here e same at_pc told =
+    let step = step_with p (Effect.Fault (kind_number kind)) (ap effect_of here ∙ e) in
+    let pc_is : p.machine.pc ≡ pc = ap (λ (k : Machine). k.pc) here ∙ sym at_pc in
+    (step.leads ∙ ap (λ (a : ℕ). Over p (Signal (kind_number kind) a)) pc_is, same ∙ sym here, nothing_sent t p before new step.sends told)
 
-pub untabled_step : (p : Place) → effect_of p.machine ≡ Effect.Call → call_number p.machine ≢ 64 → call_number p.machine ≢ 93 → IsStep p (Over p NotBuilt) []
-untabled_step p h a b = call_step p (Untabled (call_number p.machine)) h (grind (arith, nat_tests)) (untabled_is p.machine p.world a b)
+-- a call that went on
+pub went_gives : (t : Told) (p : Place) (before : List Sent) (old now : GuestState) (new : Told) (entry : CallRecord) (called : Called) → p.machine ≡ machine old → effect_of (machine old) ≡ Effect.Call → call_of p.machine p.world ≡ called
+    → ServeGives t p.world before called (Ok (served.Went entry)) old now new → StepGives t p before (Ok turns.Next) (machine now) new
+went_gives t p before old now new entry (Went next later given messages) here e is gives =
+    let step = call_with p (Went next later given messages) (ap effect_of here ∙ e) is in
+    subst (λ (m : Machine). StepGives t p before (Ok turns.Next) m new) (sym gives.0) (goes t p (record { machine = next; world = later; calls = p.calls + 1 }) before messages new step gives.2)
+went_gives t p before old now new entry (Exits status) here e is gives = absurd gives
+went_gives t p before old now new entry (Untabled number) here e is gives = absurd gives
 
-write_is : (m : Machine) (w : World) → call_number m ≡ 64 → argument m 0 ≡ 1 → is_range_permitted Read m.space.areas (argument m 1) (argument m 2) ≡ true
-    → call_of m w ≡ went m w (argument m 2) (record { port = 1; bytes = bytes_at m.space.bytes (argument m 1) (argument m 2) } ∷ [])
-unfolding call_of
-write_is m w number port readable = ap (λ (n : ℕ). call_by n m w) number ∙ rw (port, readable) refl
+-- one that ended the run
+pub exit_gives : (t : Told) (p : Place) (before : List Sent) (old now : GuestState) (new : Told) (status : ℕ) (called : Called) → p.machine ≡ machine old → effect_of (machine old) ≡ Effect.Call → call_of p.machine p.world ≡ called
+    → ServeGives t p.world before called (Ok (served.Exit status)) old now new → StepGives t p before (Ok (turns.Over (ends.Exit status))) (machine now) new
+exit_gives t p before old now new status (Went next later given messages) here e is gives = absurd gives
+exit_gives t p before old now new status (Exits given) here e is gives =
+    let step = call_with p (Exits given) (ap effect_of here ∙ e) is in
+    (step.leads ∙ ap (λ (s : ℕ). Over p (Exit s)) (sym gives.0), ap machine gives.1 ∙ sym here, nothing_sent t p before new step.sends gives.2)
+exit_gives t p before old now new status (Untabled number) here e is gives = absurd gives
 
--- a write to the standard output of bytes that may be read
-pub write_step : (p : Place) → effect_of p.machine ≡ Effect.Call → call_number p.machine ≡ 64 → argument p.machine 0 ≡ 1
-    → is_range_permitted Read p.machine.space.areas (argument p.machine 1) (argument p.machine 2) ≡ true
-    → IsStep p (Goes (record p { machine = finished p.machine (argument p.machine 2); calls = p.calls + 1 }))
-    (record { port = 1; bytes = bytes_at p.machine.space.bytes (argument p.machine 1) (argument p.machine 2) } ∷ [])
-write_step p h number port readable =
-    let allowed : is_built_call p.machine ≡ true = rw (number, port, readable) refl in
-    let is = write_is p.machine p.world number port readable in
-    call_step p (went p.machine p.world (argument p.machine 2) (record { port = 1; bytes = bytes_at p.machine.space.bytes (argument p.machine 1) (argument p.machine 2) } ∷ [])) h allowed is
+pub unsupported_gives : (t : Told) (p : Place) (before : List Sent) (old now : GuestState) (m : Machine) (new : Told) (number pc : ℕ) (called : Called) → p.machine ≡ machine old → effect_of (machine old) ≡ Effect.Call → call_of p.machine p.world ≡ called
+    → pc ≡ now.pc → ServeGives t p.world before called (Err (calls.Unsupported number)) old now new → StepGives t p before (Err (faults.Unsupported number pc)) m new
+unsupported_gives t p before old now m new number pc (Went next later given messages) here e is at_pc gives = absurd gives
+unsupported_gives t p before old now m new number pc (Exits given) here e is at_pc gives = absurd gives
+unsupported_gives t p before old now m new number pc (Untabled given) here e is at_pc gives =
+    let step = call_with p (Untabled given) (ap effect_of here ∙ e) is in
+    let pc_is : p.machine.pc ≡ pc = ap (λ (k : Machine). k.pc) here ∙ (ap (λ (g : GuestState). g.pc) (sym gives.1) ∙ sym at_pc) in
+    (step.leads ∙ (ap (λ (n : ℕ). Over p (Unsupported n p.machine.pc)) (sym gives.0) ∙ ap (λ (a : ℕ). Over p (Unsupported number a)) pc_is), nothing_sent t p before new step.sends gives.2)
 
--- another write
-pub other_write : (p : Place) → effect_of p.machine ≡ Effect.Call → call_number p.machine ≡ 64
-    → (argument p.machine 0 == 1 && is_range_permitted Read p.machine.space.areas (argument p.machine 1) (argument p.machine 2)) ≡ false
-    → IsStep p (Over p NotBuilt) []
-other_write p h number is_no = not_built p Effect.Call h (ap (λ (n : ℕ). not (n == 64) || (argument p.machine 0 == 1 && is_range_permitted Read p.machine.space.areas (argument p.machine 1) (argument p.machine 2))) number ∙ is_no)
+pub input_gives : (t : Told) (p : Place) (before : List Sent) (old now : GuestState) (m : Machine) (new : Told) (called : Called) → p.machine ≡ machine old → effect_of (machine old) ≡ Effect.Call → call_of p.machine p.world ≡ called
+    → ServeGives t p.world before called (Err calls.InputFault) old now new → StepGives t p before (Err faults.InputFault) m new
+input_gives t p before old now m new (Went next later given messages) here e is gives =
+    let step = call_with p (Went next later given messages) (ap effect_of here ∙ e) is in
+    record { sends = step.sends ∙ gives.1; part = subst (λ (k : Machine). PartTaken t p.world before (asked_size k) new) (sym here) gives.2 }
+input_gives t p before old now m new (Exits given) here e is gives = absurd gives
+input_gives t p before old now m new (Untabled given) here e is gives = absurd gives
+
+pub output_gives : (t : Told) (p : Place) (before : List Sent) (old now : GuestState) (m : Machine) (new : Told) (called : Called) (port : Port) → p.machine ≡ machine old → effect_of (machine old) ≡ Effect.Call → call_of p.machine p.world ≡ called
+    → ServeGives t p.world before called (Err (calls.OutputFault port)) old now new → StepGives t p before (Err (faults.OutputFault port)) m new
+output_gives t p before old now m new (Went next later given messages) port here e is gives =
+    let step = call_with p (Went next later given messages) (ap effect_of here ∙ e) is in
+    subst (λ (xs : List Sent). PartWritten t p.world before port xs new) (sym step.sends) gives.1
+output_gives t p before old now m new (Exits given) port here e is gives = absurd gives
+output_gives t p before old now m new (Untabled given) port here e is gives = absurd gives
+
+pub no_memory_gives : (t : Told) (w : World) (before : List Sent) (old now : GuestState) (new : Told) (called : Called) → ServeGives t w before called (Err calls.NoMemory) old now new → new ≡ at t w before
+no_memory_gives t w before old now new (Went next later given messages) gives = gives.1
+no_memory_gives t w before old now new (Exits given) gives = gives.1
+no_memory_gives t w before old now new (Untabled given) gives = gives.1

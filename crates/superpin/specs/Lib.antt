@@ -1,5 +1,4 @@
 pub mod Answer
-pub mod Built
 pub mod Run
 pub mod Words
 pub mod Report

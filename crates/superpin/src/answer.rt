@@ -2,6 +2,7 @@
 ghost use Rattle.std.specs.Prelude.{◌≡◌};
 ghost use Rattle.superpin.specs.Answer.{exit_code_of};
 
+use elf_load::ElfFault;
 use sp_host::Port;
 
 /// Why nothing was reported, in the order of the refusals' numbers.
@@ -9,14 +10,25 @@ use sp_host::Port;
 pub enum Refusal {
     /// The file could not be read.
     FileFault,
+    /// The file has more than 33,554,432 bytes.
+    FileTooLarge,
+    /// The file is no executable that is accepted.
+    Elf(ElfFault),
+    /// The strings of the program, with a zero byte each, have more than 65,536 bytes: `bytes`, or `u64::MAX` where it is
+    /// more.
+    ArgsTooLong { bytes: u64 },
+    /// The call at `pc` has a number that no call has.
+    UnsupportedCall { number: u32, pc: u32 },
     /// The run had not ended after `n` steps.
     BudgetSpent { n: u64 },
+    /// The input could not be read.
+    InputFault,
     /// A port did not take the run's bytes.
     OutputFault { port: Port },
     /// The report could not be written.
     ReportFault,
     NoMemory,
-    /// The words, the file or a step of the run are not built yet.
+    /// The words are not built yet.
     NotBuilt,
 }
 

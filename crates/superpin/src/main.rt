@@ -2,7 +2,6 @@
 #![tactic(auto)]
 
 mod answer;
-pub mod laws;
 mod report;
 mod run;
 #[cfg(test)]

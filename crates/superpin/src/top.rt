@@ -1,38 +1,36 @@
 // From the words to the answer.
-ghost use Rattle.std.specs.Prelude.{◌≡◌, ◌≢◌, ◌<◌, ◌≤◌, ◌↔◌, ◌^◌, ◌-◌, ℕ, [], length, string_bytes, None, Some, Err, MatchResult};
+ghost use Rattle.std.specs.Prelude.{◌≡◌, ◌≢◌, ◌<◌, ◌≤◌, ◌↔◌, ◌^◌, ◌-◌, ℕ, [], length, None, Ok, Err, IfOk, IfErr, MatchResult};
 ghost use Rattle.sp_host.specs.Told.{Told, WhereTold};
-ghost use Rattle.elf_load.specs.Form.{image_of};
+ghost use Rattle.sp_host.specs.Faults.{To, count_of};
+ghost use Rattle.elf_load.specs.Elf.{refusal_of};
 ghost use Rattle.guest_model.specs.Call.{World};
-ghost use Rattle.superpin.specs.Due.{at_start, start_of, due_run, due_of};
-ghost use Rattle.superpin.specs.Run.{at};
-ghost use Rattle.superpin.specs.Outcome.{WhereAllTold, CausedBy, AttemptGives, WritesLine, Outcome, CanRise, IsDelivered, IsCaused, AddsFront};
+ghost use Rattle.rv_machine.specs.Guest.{machine};
+ghost use Rattle.syscall_layer.specs.Serve.{at};
+ghost use Rattle.superpin.specs.Due.{at_start, name_of, start_of_accepted, start_of_file, start_of, due_run, due_of};
+ghost use Rattle.superpin.specs.Outcome.{WhereAllTold, cause_of, CausedBy, AttemptGives, WritesLine, Outcome, CanRise, NoneRose, IsDelivered, IsCaused, AddsFront};
 ghost use Rattle.superpin.specs.Words.{asked, texts};
-ghost use Rattle.superpin.specs.Top.{refusal_of_read, refusal_of_run, ReadGives, StartGives, ReadyGives};
+ghost use Rattle.superpin.specs.Top.{refusal_of_read, refusal_of_run, ReadGives, StartGives};
 
 use crate::answer::{Answer, Refusal};
 use crate::report::{refusal_line, report};
-use crate::run::{RunFault, execute};
-use crate::words::file_asked;
-use elf_load::load;
-use rv_machine::Guest;
-use sp_host::{Host, Pacer, Port, ReadFault, read_within, write_whole};
+use crate::run::execute;
+use crate::words::asked;
+use elf_load::{ElfFault, load};
+use rv_machine::{Guest, LoadFault};
+use sp_host::{Host, Pacer, Port, ReadFault, read_whole, write_whole};
 use std::alloc::Global;
-use std::slice;
+use syscall_layer::RunFault;
 
-/// The most steps of a run.
-pub const BUDGET: u64 = 1_000_000_000;
-
-// The most bytes of a file: two headers and 1,024 words.
-const MAX_FILE: usize = 4180;
+// One frame for each page that can be mapped, so that a run never lacks one.
+const FRAMES: u32 = 16384;
 
 impl From<ReadFault> for Refusal {
     ghost from_gives = { λ fault refusal. refusal ≡ refusal_of_read fault };
 
-    // A file that is too large is in no form that is built.
     fn from(fault: ReadFault) -> Self {
         match fault {
             ReadFault::FileFault => Refusal::FileFault,
-            ReadFault::FileTooLarge => Refusal::NotBuilt,
+            ReadFault::FileTooLarge => Refusal::FileTooLarge,
             ReadFault::NoMemory => Refusal::NoMemory,
         }
     }
@@ -43,9 +41,11 @@ impl From<RunFault> for Refusal {
 
     fn from(fault: RunFault) -> Self {
         match fault {
-            RunFault::NotBuilt => Refusal::NotBuilt,
+            RunFault::Unsupported { number, pc } => Refusal::UnsupportedCall { number, pc },
             RunFault::BudgetSpent { n } => Refusal::BudgetSpent { n },
-            RunFault::OutputFault => Refusal::OutputFault { port: Port::Out },
+            RunFault::InputFault => Refusal::InputFault,
+            RunFault::OutputFault { port } => Refusal::OutputFault { port },
+            RunFault::NoMemory => Refusal::NoMemory,
         }
     }
 }
@@ -57,54 +57,61 @@ fn read_program<H: Host>(alloc: Global, host: &mut H, name: &str) -> Result<Vec<
     ensures faults { MatchResult result (λ _. H.faults host.new ≡ H.faults host.old)
         (λ e. CausedBy e (H.faults host.old) (H.faults host.new)) }
 {
-    match read_within(alloc, host, name, MAX_FILE) {
+    match read_whole(alloc, host, name) {
         Ok(file) => Ok(file),
         Err(fault) => Err(Refusal::from(fault)),
     }
 }
 
-// The guest of a file, at the start of its run.
-fn start(alloc: Global, file: &[u8], name: &String) -> Result<Guest, Refusal>
-    requires some { 1 ≤ length (string_bytes name.now) }
-    requires short { length (string_bytes name.now) ≤ 255 }
-    ensures { StartGives (image_of file.now) (string_bytes name.now) result }
+// The guest of a file, at the start of its run, with these strings.
+fn start(alloc: Global, file: &[u8], strings: &[String]) -> Result<Guest, Refusal>
+    ensures guest { (budget : ℕ) → StartGives (start_of_accepted (refusal_of file.now) file.now (record { budget = budget; strings = texts strings.now })) budget result }
+    ensures frames { IfOk result (λ guest. 16384 ≤ guest.memory.frames) }
+    ensures cause { IfErr result (λ e. cause_of e ≡ None) }
 {
-    match load(alloc, file) {
-        Ok(Some(image)) => match Guest::load(alloc, &image, slice::from_ref(name), 0) {
-            Ok(guest) => Ok(guest),
-            Err(_) => Err(Refusal::NoMemory),
-        },
-        Ok(None) => Err(Refusal::NotBuilt),
-        Err(_) => Err(Refusal::NoMemory),
+    let image = match load(alloc, file) {
+        Ok(image) => image,
+        Err(ElfFault::NoMemory) => return Err(Refusal::NoMemory),
+        Err(fault) => return Err(Refusal::Elf(fault)),
+    };
+    match Guest::load(alloc, &image, strings, FRAMES) {
+        Ok(guest) => Ok(guest),
+        Err(LoadFault::ArgsTooLong { bytes }) => Err(Refusal::ArgsTooLong { bytes }),
+        Err(LoadFault::NoMemory) => Err(Refusal::NoMemory),
     }
 }
 
-// The guest of the run that the words ask for.
-fn ready<H: Host>(alloc: Global, words: &[String], host: &mut H) -> Result<Guest, Refusal>
-    ensures words { asked (texts words.now) ≡ None → result ≡ Err Refusal.NotBuilt }
+// The guest of the run that is asked for.
+fn ready<H: Host>(alloc: Global, strings: &[String], host: &mut H) -> Result<Guest, Refusal>
+    requires { 0 < length strings.now }
     ensures told { H.told host.new ≡ H.told host.old }
-    ensures guest { WhereTold (H.told host.old).files (λ files. ReadyGives (texts words.now) files result) }
+    ensures guest { (budget : ℕ) → WhereTold (H.told host.old).files (λ files.
+        StartGives (start_of_file (files (name_of (texts strings.now))) (record { budget = budget; strings = texts strings.now })) budget result) }
+    ensures frames { IfOk result (λ guest. 16384 ≤ guest.memory.frames) }
     ensures faults { MatchResult result (λ _. H.faults host.new ≡ H.faults host.old)
         (λ e. CausedBy e (H.faults host.old) (H.faults host.new)) }
 {
-    let Some(name) = file_asked(words) else {
-        return Err(Refusal::NotBuilt);
-    };
-    let file = match read_program(alloc, host, name.as_str()) {
+    let file = match read_program(alloc, host, strings[0].as_str()) {
         Ok(file) => file,
         Err(refusal) => return Err(refusal),
     };
-    start(alloc, &file, name)
+    start(alloc, &file, strings)
 }
 
 // The run of a guest, and its report.
-fn run_guest<H: Host>(alloc: Global, host: &mut H, guest: &mut Guest) -> Result<u8, Refusal>
+fn run_guest<H: Host>(
+    alloc: Global,
+    host: &mut H,
+    guest: &mut Guest,
+    budget: u64,
+) -> Result<u8, Refusal>
+    requires frames { 16384 ≤ guest.old.memory.frames }
     ensures told { (t : Told) (w : World) → H.told host.old ≡ at t w [] →
-        AttemptGives t BUDGET (Some (at_start guest.old w)) (due_run BUDGET (at_start guest.old w)) result (H.told host.new) }
+        AttemptGives t (Ok (record { place = at_start (machine guest.old) w; budget = budget })) (due_run budget (at_start (machine guest.old) w)) result (H.told host.new) }
     ensures faults { MatchResult result (λ _. H.faults host.new ≡ H.faults host.old)
         (λ e. CausedBy e (H.faults host.old) (H.faults host.new)) }
 {
-    let finish = match execute(host, guest, BUDGET) {
+    let finish = match execute(alloc, host, guest, budget) {
         Ok(finish) => finish,
         Err(fault) => return Err(Refusal::from(fault)),
     };
@@ -121,12 +128,15 @@ fn run_guest<H: Host>(alloc: Global, host: &mut H, guest: &mut Guest) -> Result<
 fn attempt<H: Host>(alloc: Global, words: &[String], host: &mut H) -> Result<u8, Refusal>
     ensures words { asked (texts words.now) ≡ None → result ≡ Err Refusal.NotBuilt }
     ensures told { WhereAllTold (H.told host.old) (λ files w.
-        AttemptGives (H.told host.old) BUDGET (start_of (texts words.now) files w) (due_of BUDGET (texts words.now) files w) result (H.told host.new)) }
+        AttemptGives (H.told host.old) (start_of (texts words.now) files w) (due_of (texts words.now) files w) result (H.told host.new)) }
     ensures faults { MatchResult result (λ _. H.faults host.new ≡ H.faults host.old)
         (λ e. CausedBy e (H.faults host.old) (H.faults host.new)) }
 {
-    match ready(alloc, words, host) {
-        Ok(mut guest) => run_guest(alloc, host, &mut guest),
+    let Some(asked) = asked(words) else {
+        return Err(Refusal::NotBuilt);
+    };
+    match ready(alloc, asked.strings, host) {
+        Ok(mut guest) => run_guest(alloc, host, &mut guest, asked.budget),
         Err(refusal) => Err(refusal),
     }
 }
@@ -142,10 +152,10 @@ fn refuse<H: Host>(host: &mut H, refusal: &Refusal)
     }
 }
 
-/// Runs what the words ask for: `run --by serial FILE`. The run's bytes go to the host's standard output, and its report,
-/// or the line of a refusal, to the port of reports. The pacer is not asked.
+/// Runs what the words ask for: `run --by serial [--budget N] FILE [ARGS]`. The run's bytes go to the host's standard output
+/// and standard error, and its report, or the line of a refusal, to the port of reports. The pacer is not asked.
 ///
-/// The answer is the due one, but for the faults of the file, of the standard output and of the report, which come where
+/// The answer is the due one, but for the faults of the file, of the input, of the outputs and of the report, which come where
 /// their count rose, and for want of memory.
 pub fn superpin<H: Host + Send, P: Pacer + Send>(
     alloc: Global,
@@ -157,36 +167,37 @@ pub fn superpin<H: Host + Send, P: Pacer + Send>(
     ensures words { asked (texts words.now) ≡ None → result ≡ Answer.Refused Refusal.NotBuilt }
     ensures file_fault { (H.faults host.old).file < 2 ^ 64 - 1 →
         ((result ≡ Answer.Refused Refusal.FileFault) ↔ ((H.faults host.old).file < (H.faults host.new).file)) }
-    ensures output_fault { (H.faults host.old).out < 2 ^ 64 - 1 →
-        ((result ≡ Answer.Refused (Refusal.OutputFault Port.Out)) ↔ ((H.faults host.old).out < (H.faults host.new).out)) }
+    ensures input_fault { (H.faults host.old).input < 2 ^ 64 - 1 →
+        ((result ≡ Answer.Refused Refusal.InputFault) ↔ ((H.faults host.old).input < (H.faults host.new).input)) }
+    ensures output_fault { (port : Port) → port ≢ Port.Report → count_of (To port) (H.faults host.old) < 2 ^ 64 - 1 →
+        ((result ≡ Answer.Refused (Refusal.OutputFault port)) ↔ (count_of (To port) (H.faults host.old) < count_of (To port) (H.faults host.new))) }
     ensures report_fault { (H.faults host.old).report < 2 ^ 64 - 1 →
         result ≡ Answer.Refused Refusal.ReportFault → (H.faults host.old).report < (H.faults host.new).report }
     ensures ended { (status : ℕ) → result ≡ Answer.Ended status → H.faults host.new ≡ H.faults host.old }
-    ensures other_counts { ((H.faults host.new).input ≡ (H.faults host.old).input) × ((H.faults host.new).err ≡ (H.faults host.old).err) }
-    ensures other_port { (port : Port) → result ≡ Answer.Refused (Refusal.OutputFault port) → port ≡ Port.Out }
+    ensures other_port { (port : Port) → result ≡ Answer.Refused (Refusal.OutputFault port) → port ≢ Port.Report }
     ensures pacer { pacer.new ≡ pacer.old }
 
     // Where the host tells: what is answered, and what stands where then, for each answer.
     ensures outcome { WhereAllTold (H.told host.old) (λ files w.
-        Outcome (H.told host.old) BUDGET (start_of (texts words.now) files w) (due_of BUDGET (texts words.now) files w)
+        Outcome (H.told host.old) (start_of (texts words.now) files w) (due_of (texts words.now) files w)
         (H.faults host.old) result (H.told host.new) (H.faults host.new)) }
 
     // The headline: where no count rose, the answer is the due one with exactly the due bytes, or want of memory.
     ensures headline { WhereAllTold (H.told host.old) (λ files w.
         CanRise (H.faults host.old) → H.faults host.new ≡ H.faults host.old →
-        IsDelivered (H.told host.old) (due_of BUDGET (texts words.now) files w) result (H.told host.new)) }
+        IsDelivered (H.told host.old) (due_of (texts words.now) files w) result (H.told host.new)) }
 
-    // The cause of every other answer, where no call to a file or to the standard output failed and memory was found.
+    // The cause of every other answer, where no call of the run failed and memory was found.
     ensures causes { WhereAllTold (H.told host.old) (λ files w.
-        CanRise (H.faults host.old) → (H.faults host.new).file ≡ (H.faults host.old).file → (H.faults host.new).out ≡ (H.faults host.old).out →
+        CanRise (H.faults host.old) → NoneRose (H.faults host.old) (H.faults host.new) →
         result ≢ Answer.Refused Refusal.NoMemory →
-        IsCaused (due_of BUDGET (texts words.now) files w) (H.faults host.old) (H.faults host.new) result) }
+        IsCaused (due_of (texts words.now) files w) (H.faults host.old) (H.faults host.new) result) }
 
-    // Whatever is answered, what was sent to the standard output is a beginning of what the run sends, and nothing goes
-    // to the standard error.
+    // Whatever is answered, what was sent to an output is a beginning of what the run sends there.
     ensures front { WhereAllTold (H.told host.old) (λ files w.
-        AddsFront (H.told host.old).out (due_of BUDGET (texts words.now) files w).out (H.told host.new).out) }
-    ensures quiet { WhereAllTold (H.told host.old) (λ files w. (H.told host.new).err ≡ (H.told host.old).err) }
+        AddsFront (H.told host.old).out (due_of (texts words.now) files w).out (H.told host.new).out) }
+    ensures error_front { WhereAllTold (H.told host.old) (λ files w.
+        AddsFront (H.told host.old).err (due_of (texts words.now) files w).err (H.told host.new).err) }
 {
     match attempt(alloc, words, host) {
         Ok(status) => Answer::Ended { status },

@@ -1,16 +1,13 @@
-use Rattle.std.proofs.Common.{sym, subst}
-use Rattle.guest_model.specs.Machine.{Machine}
-use Rattle.superpin.specs.Run.{FaultGives, StepGives}
-use Rattle.superpin.proofs.Gives.{next_gives, fault_gives}
+use Rattle.std.proofs.Common.{ap, ◌∙◌}
+use Rattle.rv_machine.specs.Guest.{GuestState, machine}
+use Rattle.superpin.proofs.Steps.{next_gives, fault_gives}
 use Rattle.superpin.proofs.run.step.Goals as goal
 
 pub returns-in-Next-clause-told : goal.returns-in-Next-clause-told
 returns-in-Next-clause-told g c t p before here told =
-    next_gives t p before c.args.guest.now c.step.new.self (g.H.Host.told c.args.host.now) here c.in-Next.ensures told
+    next_gives t p before (machine c.args.guest.now) (machine c.step.new.self) (g.H.Host.told c.args.host.now) here c.in-Next.ensures.gives told
 
 pub returns-in-Fault-clause-told : goal.returns-in-Fault-clause-told
 returns-in-Fault-clause-told g c t p before here told =
-    let new = g.H.Host.told c.args.host.now in
-    let same = c.in-Fault.ensures.1 in
-    let gives = subst (λ (m : Machine). FaultGives m c.in-Fault.kind c.fault.result) same c.fault.ensures in
-    subst (λ (m : Machine). StepGives t p before c.fault.result m new) (sym same) (fault_gives t p before c.args.guest.now new c.in-Fault.kind c.fault.result here c.in-Fault.ensures.0 gives told)
+    fault_gives t p before (machine c.args.guest.now) (machine c.step.new.self) (g.H.Host.told c.args.host.now) c.in-Fault.kind c.pc.result here c.in-Fault.ensures.gives.0 (ap machine c.in-Fault.ensures.gives.1)
+    (c.pc.ensures ∙ ap (λ (s : GuestState). s.pc) c.in-Fault.ensures.gives.1) told

@@ -1,21 +1,19 @@
-use Rattle.std.proofs.Common.{List, ℕ, ap, subst, ◌∙◌}
-use Rattle.std.specs.Prelude.{string_bytes, Err}
+use Rattle.std.proofs.Common.{arith, ◌≡◌, ◌≤◌, List, ℕ, length, ap, subst, ◌∙◌}
+use Rattle.std.proofs.lemmas.Grind.{common_steps}
+use Rattle.sp_host.specs.declared.whole.TheConstants.{MAX_FILE}
 use Rattle.superpin.specs.Words.{texts}
-use Rattle.superpin.specs.Top.{ReadGives}
-use Rattle.superpin.proofs.Ready.{ready_none, ready_unread, ready_started}
+use Rattle.superpin.specs.Due.{name_of}
+use Rattle.superpin.proofs.Ready.{ready_started}
+use Rattle.superpin.proofs.Causes.{calm_result}
 use Rattle.superpin.proofs.top.ready.Goals as goal
 
-pub returns-in_default-clause-guest : goal.returns-in_default-clause-guest
-returns-in_default-clause-guest g c files is = ready_none (texts c.args.words.now) files c.in_default.ensures.name
-
-pub returns-in-Err-clause-guest : goal.returns-in-Err-clause-guest
-returns-in-Err-clause-guest g c files is =
-    let name = c.in-Some.name.now in
-    let gives = subst (λ (bytes : List ℕ). ReadGives (files bytes) (Err c.in-Err.refusal)) c.as_str.ensures.value (c.in-Err.ensures.bytes files is) in
-    ready_unread (texts c.args.words.now) files (string_bytes name) c.in-Err.refusal c.in-Some.ensures.name gives
-
 pub returns-clause-guest : goal.returns-clause-guest
-returns-clause-guest g c files is =
-    let name = c.in-Some.name.now in
-    let same = c.deref.ensures.value ∙ (c.in-Ok.ensures.bytes files is ∙ ap files c.as_str.ensures.value) in
-    ready_started (texts c.args.words.now) files (string_bytes name) c.deref.result.now c.start.result c.in-Some.ensures.name same c.start.ensures
+returns-clause-guest g c budget files is =
+    let read = c.in-Ok.ensures.bytes files is in
+    let name : c.as_str.result.now ≡ name_of (texts c.args.strings.now) = grind (arith, common_steps, c.as_str.ensures.value, c.index-strings-0.is, c.requires) in
+    ready_started (files (name_of (texts c.args.strings.now))) c.deref.result.now (record { budget = budget; strings = texts c.args.strings.now }) c.start.result
+    (c.deref.ensures.value ∙ (read.0 ∙ ap files name)) (subst (λ (n : List ℕ). length (files n) ≤ MAX_FILE) name read.1) (c.start.ensures.guest budget)
+
+pub returns-clause-faults : goal.returns-clause-faults
+returns-clause-faults g c =
+    calm_result c.start.result (g.H.Host.faults c.args.host.now) (g.H.Host.faults c.read_program.new.host) c.in-Ok.ensures.faults c.start.ensures.cause
