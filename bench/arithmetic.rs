@@ -1,0 +1,74 @@
+//! What the plain interpreter's instructions compute, by the function fields of their words.
+
+use crate::{End, ILLEGAL};
+
+#[inline]
+pub fn is_taken(f3: u32, a: u32, b: u32) -> Result<bool, End> {
+    Ok(match f3 {
+        0 => a == b,
+        1 => a != b,
+        4 => (a as i32) < b as i32,
+        5 => a as i32 >= b as i32,
+        6 => a < b,
+        7 => a >= b,
+        _ => return Err(ILLEGAL),
+    })
+}
+
+#[inline]
+pub fn compute_immediate(f7: u32, f3: u32, a: u32, b: u32) -> Result<u32, End> {
+    Ok(match (f3, f7) {
+        (0, _) => a.wrapping_add(b),
+        (1, 0) => a << (b & 31),
+        (2, _) => ((a as i32) < b as i32) as u32,
+        (3, _) => (a < b) as u32,
+        (4, _) => a ^ b,
+        (5, 0) => a >> (b & 31),
+        (5, 32) => (a as i32 >> (b & 31)) as u32,
+        (6, _) => a | b,
+        (7, _) => a & b,
+        _ => return Err(ILLEGAL),
+    })
+}
+
+#[inline]
+pub fn compute(f7: u32, f3: u32, a: u32, b: u32) -> Result<u32, End> {
+    let (signed_a, signed_b) = (a as i32, b as i32);
+    Ok(match (f7, f3) {
+        (0, 0) => a.wrapping_add(b),
+        (32, 0) => a.wrapping_sub(b),
+        (0, 1) => a << (b & 31),
+        (0, 2) => (signed_a < signed_b) as u32,
+        (0, 3) => (a < b) as u32,
+        (0, 4) => a ^ b,
+        (0, 5) => a >> (b & 31),
+        (32, 5) => (signed_a >> (b & 31)) as u32,
+        (0, 6) => a | b,
+        (0, 7) => a & b,
+        (1, 0) => a.wrapping_mul(b),
+        (1, 1) => (signed_a as i64 * signed_b as i64 >> 32) as u32,
+        (1, 2) => (signed_a as i64 * b as i64 >> 32) as u32,
+        (1, 3) => (a as u64 * b as u64 >> 32) as u32,
+        (1, 4 | 5) if b == 0 => u32::MAX,
+        (1, 6 | 7) if b == 0 => a,
+        (1, 4) => signed_a.wrapping_div(signed_b) as u32,
+        (1, 5) => a / b,
+        (1, 6) => signed_a.wrapping_rem(signed_b) as u32,
+        (1, 7) => a % b,
+        _ => return Err(ILLEGAL),
+    })
+}
+
+/// The immediate of a jump.
+#[inline]
+pub fn jump_offset(word: u32) -> u32 {
+    let sign = (word as i32 >> 31) as u32;
+    sign << 20 | word & 0xff000 | (word >> 20 & 1) << 11 | (word >> 21 & 1023) << 1
+}
+
+/// The immediate of a branch.
+#[inline]
+pub fn branch_offset(word: u32) -> u32 {
+    let sign = (word as i32 >> 31) as u32;
+    sign << 12 | (word >> 7 & 1) << 11 | (word >> 25 & 63) << 5 | (word >> 8 & 15) << 1
+}
