@@ -8,7 +8,7 @@ static void turn_input(void) {
     struct piece in[2] = {{front, sizeof front}, {back, sizeof back}};
     struct piece out[2] = {{back, sizeof back}, {front, sizeof front}};
     printf("readv %d\n", (int)readv(STANDARD_INPUT, in, 2));
-    printf(" writev %d\n", (int)writev(STANDARD_OUTPUT, out, 2));
+    printf("writev %d\n", (int)writev(STANDARD_OUTPUT, out, 2));
 }
 
 // Asks the time twice, and tells whether it can be one.
