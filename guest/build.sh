@@ -20,6 +20,6 @@ fi
 
 mkdir -p "$guest/out"
 for file in "$@"; do
-    "$compiler" -march=rv32im -mabi=ilp32 -O2 -Wall -Wextra -ffreestanding -nostdlib -static -I "$guest" -T "$guest/guest.ld" \
+    "$compiler" -march=rv32im -mabi=ilp32 -O2 -g -Wall -Wextra -ffreestanding -nostdlib -static -I "$guest" -T "$guest/guest.ld" \
         -o "$guest/out/$(basename "$file" .c)" "$guest/start.S" "$guest/calls.c" "$guest/mini.c" "$file" -lgcc
 done
