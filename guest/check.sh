@@ -5,7 +5,8 @@
 #
 # Compares the standard output, the status and, under superpin, the last line of the report with what the table below says,
 # and prints a line for each run that differs and a last line with the numbers of both. SUPERPIN is the program that is run,
-# by default the launcher at the top of the repository. Where a tool is missing it says so and runs nothing.
+# by default the launcher at the top of the repository. Where the compiler or superpin is missing it says so and runs
+# nothing; without qemu it runs superpin alone.
 set -eu
 export LC_ALL=C
 ulimit -c 0
@@ -26,6 +27,8 @@ else
     superpin=$top/superpin
     [ -x "$top/crates/superpin/out/superpin" ] || command -v rt >/dev/null ||
         skip "superpin and no rt to build it" "put the Rattle kit on the path, and call $superpin once"
+    [ -x "$top/crates/superpin/out/superpin" ] ||
+        echo "check.sh: the first call of superpin proves and builds it, in some minutes" >&2
 fi
 qemu=$(command -v qemu-riscv32) ||
     echo "check.sh: there is no qemu-riscv32, so only superpin is run; install it by: apt-get install qemu-user" >&2
@@ -75,22 +78,27 @@ check() {
 
 text='two words\n  and\tthree more'
 long_text=$(awk 'BEGIN { for (i = 0; i < 20000; i++) print "word", 100000 + i }')
-address='0x????????'
+sorted='10 16485 32766\n32766 16476 10\n'
+memory='lists 50005000 50005000, great block yes\nbreak yes, map yes\n'
+calls='readv 12\nsecondfirst writev 12\nclock_gettime64 0, later 1\ngetpid 1\nwrite to no file: -9\nwrite from nowhere: -14\n'
+calls=$calls'numbers -2147483648 4294967295 beef, letter c, text text, percent %\n'
+signal='end signal 11 at 0x????????'
+refusal='superpin: 6 unsupported call 56 at 0x????????'
 
-#     under    example   status  last line                                   standard output                            input  arguments
-check both     hello     0       'end exit 0'                                'hello\n'                                  ''
-check both     echo      0       'end exit 0'                                '\n'                                       ''
-check both     echo      0       'end exit 0'                                'one two three  four\n'                    ''     one 'two three' '' four
-check both     words     0       'end exit 0'                                '0 0 0\n'                                  ''
-check both     words     0       'end exit 0'                                '1 5 26\n'                                 "$text"
-check both     words     0       'end exit 0'                                '19999 40000 239999\n'                     "$long_text"
-check both     quicksort 0       'end exit 0'                                '10 16485 32766\n32766 16476 10\n'         ''
-check both     sieve     0       'end exit 0'                                '78498 primes below 1000000\n'             ''
-check both     matrix    0       'end exit 0'                                'first -3, last 8, trace 20\n'             ''
-check both     heap      0       'end exit 0'                                'lists 50005000 50005000, great block yes\nbreak yes, map yes\n' ''
-check both     calls     42      'end exit 42'                               'readv 12\nsecondfirst writev 12\nclock_gettime64 0, later 1\ngetpid 1\nwrite to no file: -9\nwrite from nowhere: -14\nnumbers -2147483648 4294967295 beef, letter c, text text, percent %\n' 'first second'
-check both     fault     139     "end signal 11 at $address"                 'before the fault\n'                       ''
-check superpin untabled  125     "superpin: 6 unsupported call 56 at $address" 'before the call\n'                      ''
+#     under    example   status last line     standard output                 input           arguments
+check both     hello     0      'end exit 0'  'hello\n'                       ''
+check both     echo      0      'end exit 0'  '\n'                            ''
+check both     echo      0      'end exit 0'  'one two three  four\n'         ''              one 'two three' '' four
+check both     words     0      'end exit 0'  '0 0 0\n'                       ''
+check both     words     0      'end exit 0'  '1 5 26\n'                      "$text"
+check both     words     0      'end exit 0'  '19999 40000 239999\n'          "$long_text"
+check both     quicksort 0      'end exit 0'  "$sorted"                       ''
+check both     sieve     0      'end exit 0'  '78498 primes below 1000000\n'  ''
+check both     matrix    0      'end exit 0'  'first -3, last 8, trace 20\n'  ''
+check both     heap      0      'end exit 0'  "$memory"                       ''
+check both     calls     42     'end exit 42' "$calls"                        'first second'
+check both     fault     139    "$signal"     'before the fault\n'            ''
+check superpin untabled  125    "$refusal"    'before the call\n'             ''
 
 echo "$passed passed, $failed failed"
 [ "$failed" -eq 0 ]
