@@ -3,6 +3,7 @@ ghost use Rattle.std.specs.Prelude.{[], ◌∷◌, ◌≡◌, ℕ, ◌+◌, ◌*
 ghost use Rattle.guest_model.specs.Bytes.{number_of as number_of_bytes, low_bytes as low_bytes_of};
 
 /// The number of 1, 2 or 4 bytes.
+#[inline(always)]
 pub(crate) fn number_of(bytes: &[u8]) -> u32
     requires { (length bytes.now ≡ 1) ⊎ ((length bytes.now ≡ 2) ⊎ (length bytes.now ≡ 4)) }
     ensures number { result ≡ number_of_bytes bytes.now }
@@ -22,6 +23,7 @@ pub(crate) fn number_of(bytes: &[u8]) -> u32
 }
 
 /// The four bytes of a number.
+#[inline(always)]
 pub(crate) fn low_bytes(value: u32) -> [u8; 4]
     ensures { result ≡ low_bytes_of 4 value }
 {

@@ -157,6 +157,7 @@ impl Space {
     }
 
     /// The number of the `size` bytes from `at` on, modulo 2^32. Denied where one of them may not be read.
+    #[inline(always)]
     pub fn load(&self, at: u32, size: u8) -> Result<u32, Denied>
         requires { (size ≡ 1) ⊎ ((size ≡ 2) ⊎ (size ≡ 4)) }
         ensures number { MatchResult result (λ v. read_number Access.Read self.now.space at size ≡ Some v) (λ _. read_number Access.Read self.now.space at size ≡ None) }
@@ -166,6 +167,7 @@ impl Space {
     }
 
     /// The word at `at`. Denied where one of its bytes may not be executed.
+    #[inline(always)]
     pub fn fetch(&self, at: u32) -> Result<u32, Denied>
         ensures { MatchResult result (λ v. read_number Access.Execute self.now.space at 4 ≡ Some v) (λ _. read_number Access.Execute self.now.space at 4 ≡ None) }
     {
@@ -173,6 +175,7 @@ impl Space {
     }
 
     #[tactic(auto, unfolding(guest_model::specs::Space::read_number))]
+    #[inline(always)]
     fn number(&self, access: Access, at: u32, size: u8) -> Result<u32, Denied>
         requires { (size ≡ 1) ⊎ ((size ≡ 2) ⊎ (size ≡ 4)) }
         ensures number { MatchResult result (λ v. read_number access self.now.space at size ≡ Some v) (λ _. read_number access self.now.space at size ≡ None) }
@@ -188,6 +191,7 @@ impl Space {
     }
 
     /// The number of bytes that are all in one page, which is looked up once.
+    #[inline(always)]
     fn number_in_page(&self, at: u32, size: u8) -> u32
         requires size { (size ≡ 1) ⊎ ((size ≡ 2) ⊎ (size ≡ 4)) }
         requires within { at % 4096 + size ≤ 4096 }
@@ -201,6 +205,7 @@ impl Space {
     }
 
     /// The number of 2 or 4 bytes, each of which is looked up.
+    #[inline(never)]
     fn number_across(&self, at: u32, size: u8) -> u32
         requires { (size ≡ 1) ⊎ ((size ≡ 2) ⊎ (size ≡ 4)) }
         ensures number { result ≡ number_of_bytes (bytes_at self.now.space.bytes at size) }
@@ -223,6 +228,7 @@ impl Space {
     }
 
     /// Whether each of the `size` bytes from `at` on, modulo 2^32, is in an area with the permission. A page is looked up once.
+    #[inline(always)]
     fn allows(&self, access: Access, at: u32, size: u8) -> bool
         requires { (size ≡ 1) ⊎ ((size ≡ 2) ⊎ (size ≡ 4)) }
         ensures permitted { result ≡ all_permitted access self.now.space.areas at size }
@@ -257,6 +263,7 @@ impl Space {
 
     /// Stores the `size` low bytes of the value from `at` on, the lowest first. Denied, with no change, where one of them may not be written.
     #[tactic(auto, unfolding(guest_model::specs::Space::write_number))]
+    #[inline(always)]
     pub fn store(&mut self, at: u32, size: u8, value: u32) -> Result<(), Denied>
         requires size { (size ≡ 1) ⊎ ((size ≡ 2) ⊎ (size ≡ 4)) }
         requires frames { all_permitted Access.Write self.old.space.areas at size ≡ true → HasFrames self.old at size }
@@ -303,6 +310,7 @@ impl Space {
     }
 
     /// Stores bytes that are all in areas, page by page.
+    #[inline(never)]
     fn store_bytes(&mut self, at: u32, bytes: &[u8])
         requires end { at + length bytes.now ≤ 2 ^ 32 }
         requires mapped { (i : ℕ) → i < length bytes.now → is_mapped self.old.space.areas (at + i) ≡ true }
@@ -323,6 +331,7 @@ impl Space {
     }
 
     /// Stores bytes that are all in one page, which is looked up once.
+    #[inline(always)]
     fn store_in_page(&mut self, at: u32, bytes: &[u8])
         requires some { 0 < length bytes.now }
         requires within { at % 4096 + length bytes.now ≤ 4096 }

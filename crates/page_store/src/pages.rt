@@ -63,6 +63,7 @@ impl Pages {
 
     /// The `len` bytes from `at` on, all in one page, looked up once. None where each of them is 0 because the page was
     /// never written or placed.
+    #[inline(always)]
     pub fn slice(&self, at: u32, len: usize) -> Option<&[u8]>
         requires { at % 4096 + len ≤ 4096 }
         ensures { MatchOption result ((i : ℕ) → i < len → slice_index self.now.flat_bytes (at + i) ≡ 0)
@@ -72,6 +73,7 @@ impl Pages {
     }
 
     /// Writes at least one byte from `at` on, all in one page. The page takes a frame, unless it has one.
+    #[inline(always)]
     pub fn write(&mut self, at: u32, bytes: &[u8])
         requires some { 0 < length bytes.now }
         requires within { at % 4096 + length bytes.now ≤ 4096 }
@@ -88,6 +90,7 @@ impl Pages {
     }
 
     /// Gives the page a frame, unless it has one.
+    #[inline(always)]
     fn claim(&mut self, page: u32)
         requires page { page < 2 ^ 20 }
         requires frame { (is_marked self.old.framed (4096 * page) ≡ true) ⊎ (0 < self.old.free) }

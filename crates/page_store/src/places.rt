@@ -36,6 +36,7 @@ impl Places {
     }
 
     /// The place of a page, if it has one.
+    #[inline(always)]
     fn place_of(&self, page: u32) -> Option<usize>
         requires { page < length self.now.table.items }
         ensures { MatchOption result (has_place_in self.now page ≡ false) (λ place. (has_place_in self.now page ≡ true) × (place ≡ slice_index self.now.table.items page)) }
@@ -61,6 +62,7 @@ impl Places {
     }
 
     /// The `len` bytes from `at` on, all in one page. None where the page has no place, and so each of them is 0.
+    #[inline(always)]
     pub(crate) fn slice(&self, at: u32, len: usize) -> Option<&[u8]>
         requires table { IsTable self.now }
         requires within { at % 4096 + len ≤ 4096 }
@@ -95,6 +97,7 @@ impl Places {
     }
 
     /// Gives the page a place of zeros, unless it has a place.
+    #[inline(never)]
     pub(crate) fn give(&mut self, page: u32)
         requires table { IsTable self.old }
         requires page { page < 2 ^ 20 }
@@ -134,6 +137,7 @@ impl Places {
     }
 
     /// Writes bytes within a page that has a place.
+    #[inline(always)]
     pub(crate) fn write(&mut self, at: u32, source: &[u8])
         requires table { IsTable self.old }
         requires placed { has_place_in self.old (at / 4096) ≡ true }
@@ -197,6 +201,7 @@ fn move_last(bytes: &mut Vec<u8>, last: usize, place: usize)
 }
 
 /// Copies the source over the bytes from `from` on.
+#[inline(always)]
 fn copy(bytes: &mut Vec<u8>, from: usize, source: &[u8])
     requires within { from + length source.now ≤ length bytes.old.items }
     ensures bytes { (k : ℕ) → slice_index bytes.new.items k ≡ (if is_among from (length source.now) k then slice_index source.now (k - from) else slice_index bytes.old.items k) }

@@ -10,6 +10,7 @@ use crate::op::{Form, Op};
 use crate::word::{bits, sign_extend};
 
 /// The instruction of a word, or None where no row of the table has it.
+#[inline(always)]
 pub fn decode(word: u32) -> Option<Instr>
     ensures found { IfSome result (λ i. Decodes word i) }
     ensures only { (i : Fields) → Decodes word i → result ≡ Some i }
@@ -20,6 +21,7 @@ pub fn decode(word: u32) -> Option<Instr>
 }
 
 // The name of the row that has the word.
+#[inline(always)]
 fn op_of(word: u32) -> Option<Op>
     ensures row { IfSome result (λ op. IsFixed (row_of op) word) }
     ensures only { (op : Op) → IsFixed (row_of op) word → result ≡ Some op }

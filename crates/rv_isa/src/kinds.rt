@@ -30,6 +30,7 @@ pub fn is_taken(op: Op, a: u32, b: u32) -> bool
 }
 
 /// What a load puts into its register, from the little-endian number of the bytes that it read.
+#[inline(always)]
 pub fn loaded(op: Op, value: u32) -> u32
     requires { value < 2 ^ (8 * size_of op) }
     ensures { result ≡ loaded_of op value }
@@ -42,6 +43,7 @@ pub fn loaded(op: Op, value: u32) -> u32
 }
 
 /// How many bytes an instruction loads or stores: 1, 2 or 4, or 0 where it does neither.
+#[inline(always)]
 pub fn mem_size(i: &Instr) -> u8
     ensures { result ≡ size_of i.now.op }
 {

@@ -73,7 +73,7 @@ impl Guest {
         self.carry_out(&i)
     }
 
-    // Carries out an instruction.
+    // Carries out an instruction. Each load and store has an arm of its own, so that its size is a constant there.
     fn carry_out(&mut self, i: &Instr) -> Stepped
         requires frames { all_permitted Write self.old.memory.space.areas (address (machine self.old) i.now) (stored_size i.now.op) ≡ true
             → HasFrames self.old.memory (address (machine self.old) i.now) (stored_size i.now.op) }
@@ -88,8 +88,14 @@ impl Guest {
             Op::Jal => self.jump(i, self.target(i)),
             Op::Jalr => self.jump(i, self.address(i) & !1),
             Op::Beq | Op::Bne | Op::Blt | Op::Bge | Op::Bltu | Op::Bgeu => self.branch(i),
-            Op::Lb | Op::Lh | Op::Lw | Op::Lbu | Op::Lhu => self.load_register(i),
-            Op::Sb | Op::Sh | Op::Sw => self.store(i),
+            Op::Lb => self.load_register(i),
+            Op::Lh => self.load_register(i),
+            Op::Lw => self.load_register(i),
+            Op::Lbu => self.load_register(i),
+            Op::Lhu => self.load_register(i),
+            Op::Sb => self.store(i),
+            Op::Sh => self.store(i),
+            Op::Sw => self.store(i),
             Op::Addi | Op::Slti | Op::Sltiu => self.compute(i, immediate(i)),
             Op::Xori | Op::Ori | Op::Andi => self.compute(i, immediate(i)),
             Op::Slli | Op::Srli | Op::Srai => self.compute(i, immediate(i)),
@@ -168,6 +174,7 @@ impl Guest {
         Stepped::Next
     }
 
+    #[inline(always)]
     fn compute(&mut self, i: &Instr, operand: u32) -> Stepped
         ensures gives { Gives (computes (machine self.old) i.now operand) result self.old self.new }
         ensures memory { self.new.memory ≡ self.old.memory }
@@ -204,6 +211,7 @@ impl Guest {
         Stepped::Next
     }
 
+    #[inline(always)]
     fn load_register(&mut self, i: &Instr) -> Stepped
         requires { 0 < size_of i.now.op }
         ensures gives { Gives (loads (machine self.old) i.now) result self.old self.new }
@@ -215,6 +223,7 @@ impl Guest {
         }
     }
 
+    #[inline(always)]
     fn store(&mut self, i: &Instr) -> Stepped
         requires size { 0 < size_of i.now.op }
         requires frames { all_permitted Write self.old.memory.space.areas (address (machine self.old) i.now) (size_of i.now.op) ≡ true
