@@ -143,7 +143,7 @@ impl Machine {
         let rs2 = (word >> 20 & 31) as usize;
         let immediate = (word as i32 >> 20) as u32;
         let following = self.pc.wrapping_add(4);
-        // The opcode without its two low bits, and then what goes to rd, and the next pc where it is another.
+        // By the opcode without its two low bits: what goes to rd. Where nothing does, or the next pc is another, it returns.
         let value = match word >> 2 & 31 {
             0b01101 => word & 0xffff_f000,
             0b00101 => self.pc.wrapping_add(word & 0xffff_f000),
@@ -197,7 +197,7 @@ impl Machine {
     }
 
     /// The result of the call that the registers ask for.
-    fn call(&mut self) -> Result<u32, End> {
+    fn call(&self) -> Result<u32, End> {
         let [port, at, len] = [10, 11, 12].map(|n| self.registers[n]);
         match self.registers[17] {
             93 => Err(End::Exit(port)),

@@ -3,9 +3,9 @@
 #
 #     bench/run.sh [PROGRAM]
 #
-# PROGRAM is the proved program, by default the one that the launcher ./superpin runs. It is run as it stands, so call the launcher
-# first where a source has changed. Prints the steps a second of both, each the best of three runs by the processor time that
-# they took, and the ratio. Needs rustc, awk and sh.
+# PROGRAM is the proved program, by default the one that the launcher ./superpin runs. It is run as it stands, so call the
+# launcher first where a source has changed. Prints the steps a second of both, each the best of three runs by the processor
+# time that they took, and the ratio. Needs rustc, awk and sh.
 set -eu
 export LC_ALL=C
 
@@ -25,7 +25,8 @@ folder=$(mktemp -d)
 trap 'rm -rf "$folder"' EXIT
 trap 'exit 1' HUP INT TERM
 
-rustc -O --edition 2024 -o "$folder/interpreter" "$bench/interpreter.rs"
+# Named from its own folder, so that the code is the same wherever the repository stands: its place in memory tells in the time.
+(cd "$bench" && exec rustc -O --edition 2024 -o "$folder/interpreter" interpreter.rs)
 "$folder/interpreter" make "$folder/guest"
 
 # Runs a program over the guest, and adds to the list NAME how many steps it took, and how many it did a second.
