@@ -1,0 +1,86 @@
+// The words that were decoded last, with their instructions.
+ghost use Rattle.std.specs.Prelude.{◌≡◌, ◌<◌};
+ghost use Rattle.rv_isa.specs.Decoded.{decoded};
+
+use rv_isa::{Instr, decode};
+use std::alloc::{AllocError, Global};
+use std::marker::Model;
+
+const ENTRIES: usize = 1024;
+
+// A word with its instruction.
+#[derive(Drop, Clone, Copy)]
+struct Entry {
+    word: u32,
+    instr: Option<Instr>,
+}
+
+impl Model for Entry {
+    ghost use Rattle.std.specs.Prelude.{◌≡◌, ℕ};
+    ghost use Rattle.rv_isa.specs.Decoded.{decoded};
+
+    ghost Value = { ℕ };
+
+    ghost view = { λ e. e.word };
+
+    ghost invariant = { λ e. e.instr ≡ decoded e.word };
+
+    ghost use Rattle.std.proofs.Common.{sym};
+
+    ghost inverse = { λ word. record { word = word; instr = decoded word } };
+
+    ghost inverse_ok = { λ e h i. record { word = e.word; instr = sym h i } };
+}
+
+/// A table from words to their instructions, in which a word has one place.
+#[derive(Drop)]
+pub(crate) struct DecodedWords {
+    entries: Vec<Entry>,
+}
+
+impl Model for DecodedWords {
+    ghost use Rattle.std.specs.Prelude.{◌≡◌, length};
+
+    ghost Value = { Unit {0} };
+
+    ghost view = { λ _. tt };
+
+    ghost invariant = { λ d. length d.entries.items ≡ 1024 };
+}
+
+impl DecodedWords {
+    /// A table that has the word 0 in each of its places. The memory that it needs is taken here.
+    pub(crate) fn new(alloc: Global) -> Result<DecodedWords, AllocError> {
+        let zero = Entry {
+            word: 0,
+            instr: decode(0),
+        };
+        Ok(DecodedWords {
+            entries: vec![in alloc; zero; ENTRIES]?,
+        })
+    }
+
+    /// The instruction of a word, or None where no row of the table has it. It is decoded only where the word is not in its
+    /// place, and is there from then on.
+    #[inline]
+    pub(crate) fn decode(&mut self, word: u32) -> Option<Instr>
+        ensures { result ≡ decoded word }
+    {
+        let entry = &mut self.entries[place_of(word)];
+        if entry.word != word {
+            *entry = Entry {
+                word,
+                instr: decode(word),
+            };
+        }
+        entry.instr
+    }
+}
+
+// The place of a word: the upper bits of its product with 2^32 over the golden ratio, on which each of its bits tells.
+#[inline]
+fn place_of(word: u32) -> usize
+    ensures { result < 1024 }
+{
+    (word.wrapping_mul(0x9e37_79b1) >> 22) as usize
+}
