@@ -1,4 +1,4 @@
-// The words that were decoded last, with their instructions.
+// Words that were decoded before, with their instructions.
 ghost use Rattle.std.specs.Prelude.{◌≡◌, ◌<◌};
 ghost use Rattle.rv_isa.specs.Decoded.{decoded};
 
@@ -26,7 +26,7 @@ impl Model for Entry {
     ghost invariant = { λ e. decoded e.word ≡ Some e.instr };
 }
 
-/// A table from words to their instructions, in which a word has one place.
+/// A table of words with their instructions, in which a word has one place. No contract sees which words it has.
 #[derive(Drop)]
 pub(crate) struct DecodedWords {
     entries: Vec<Entry>,
