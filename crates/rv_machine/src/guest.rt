@@ -6,6 +6,7 @@ ghost use Rattle.guest_model.specs.Call.{finished};
 ghost use Rattle.rv_machine.specs.Guest.{machine};
 ghost use Rattle.rv_machine.specs.Lending.{LendsMemory};
 
+use crate::decoded::DecodedWords;
 use guest_mem::Space;
 use rv_isa::{Instr, decode};
 use std::marker::Model;
@@ -17,6 +18,7 @@ pub struct Guest {
     pub(crate) registers: [u32; 32],
     pub(crate) memory: Space,
     pub(crate) fresh: bool,
+    pub(crate) decoded: DecodedWords,
 }
 
 impl Model for Guest {

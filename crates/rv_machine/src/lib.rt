@@ -1,6 +1,7 @@
 //! A guest: one hart of RV32IM with its memory.
 #![tactic(auto)]
 
+mod decoded;
 mod guest;
 mod load;
 #[cfg(test)]

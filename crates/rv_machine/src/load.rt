@@ -5,6 +5,7 @@ ghost use Rattle.guest_mem.specs.Memory.{HasFreeFrames};
 ghost use Rattle.rv_machine.specs.Load.{LoadGives, area_of, first_break, segments_space, strings_size};
 ghost use Rattle.rv_machine.specs.declared.load.LoadFault.TheVariants.{NoMemory};
 
+use crate::decoded::DecodedWords;
 use crate::guest::Guest;
 use crate::stack::{RANDOM, STACK, first_stack, stack_pointer};
 use elf_load::{Image, Segment};
@@ -66,6 +67,7 @@ impl Guest {
             registers,
             memory: segments_space(alloc, image, frames)?,
             fresh: true,
+            decoded: DecodedWords::new(alloc)?,
         };
         guest.memory.add_area(STACK, pointer, &stack)?;
         Ok(guest)

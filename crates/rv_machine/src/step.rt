@@ -11,7 +11,7 @@ ghost use Rattle.rv_machine.specs.Guest.{machine};
 ghost use Rattle.rv_machine.specs.Step.{Gives, StepHasFrames, StepTakesFrames, status_of};
 
 use crate::guest::Guest;
-use rv_isa::{Instr, Op, alu, decode, is_taken, is_terminator, loaded, mem_size};
+use rv_isa::{Instr, Op, alu, is_taken, is_terminator, loaded, mem_size};
 
 /// The kinds of faults, by the numbers of their signals.
 #[derive(Clone, Copy, Debug, PartialEq, Eq)]
@@ -67,7 +67,7 @@ impl Guest {
         let Ok(word) = self.memory.fetch(self.pc) else {
             return Stepped::Fault(FaultKind::Access);
         };
-        let Some(i) = decode(word) else {
+        let Some(i) = self.decoded.decode(word) else {
             return Stepped::Fault(FaultKind::Illegal);
         };
         self.carry_out(&i)
