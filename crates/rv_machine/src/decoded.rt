@@ -6,7 +6,7 @@ use rv_isa::{Instr, Op, decode};
 use std::alloc::{AllocError, Global};
 use std::marker::Model;
 
-const ENTRIES: usize = 1024;
+const ENTRIES: usize = 4096;
 
 // A word with its instruction.
 #[derive(Drop)]
@@ -39,7 +39,7 @@ impl Model for DecodedWords {
 
     ghost view = { λ _. tt };
 
-    ghost invariant = { λ d. length d.entries.items ≡ 1024 };
+    ghost invariant = { λ d. length d.entries.items ≡ 4096 };
 }
 
 impl DecodedWords {
@@ -85,7 +85,7 @@ fn nop() -> Entry {
 // The place of a word: the upper bits of its product with 2^32 over the golden ratio, on which each of its bits tells.
 #[inline]
 fn place_of(word: u32) -> usize
-    ensures { result < 1024 }
+    ensures { result < 4096 }
 {
-    (word.wrapping_mul(0x9e37_79b1) >> 22) as usize
+    (word.wrapping_mul(0x9e37_79b1) >> 20) as usize
 }
