@@ -1,11 +1,12 @@
-#!/bin/sh
+#!/usr/bin/env bash
 # Measures superpin beside a plain interpreter in Rust, over one guest program of about 10^8 steps:
 #
 #     bench/run.sh [PROGRAM]
 #
 # PROGRAM is the proved program, by default the one that the launcher ./superpin runs. It is run as it stands, so call the
-# launcher first where a source has changed. Prints the steps a second of both, each the best of three runs by the processor
-# time that they took, and the ratio. Needs rustc, awk and sh.
+# launcher first where a source has changed. Prints the steps a second of both, each the best of five runs by the processor
+# time that they took, and the ratio. Needs rustc, awk and bash, whose `times` counts thousandths of a second: in the plain
+# shell it counts hundredths, which are 1.5 in 100 of a run.
 set -eu
 export LC_ALL=C
 
@@ -49,7 +50,7 @@ measure() {
     ' "$folder/before" "$folder/after" "$folder/report" >>"$folder/$1"
 }
 
-for turn in 1 2 3; do
+for turn in 1 2 3 4 5; do
     measure superpin "$program"
     measure plain "$folder/interpreter"
 done
@@ -64,8 +65,8 @@ awk '
             print "run.sh: the two did not take the same number of steps: " steps " and " $1 >"/dev/stderr"
             exit 1
         }
-        printf "superpin: %d steps a second\n", best[1]
-        printf "plain interpreter: %d steps a second\n", best[2]
+        printf "superpin: %.1f million steps a second\n", best[1] / 1000000
+        printf "plain interpreter: %.1f million steps a second\n", best[2] / 1000000
         printf "superpin / plain interpreter: %.2f\n", best[1] / best[2]
     }
 ' "$folder/superpin" "$folder/plain"
