@@ -1,7 +1,8 @@
 -- How often each kind of call of the outside has failed.
-use Rattle.std.specs.Prelude.{◌≡◌, ℕ, ◌<◌, ◌≤◌, ◌-◌, ◌^◌, Result, MatchResult, Option, None, Some}
+use Rattle.std.specs.Prelude.{◌≡◌, ℕ, Result, MatchResult, Option, None, Some}
 use Rattle.sp_host.specs.declared.host.Port.{Port}
 use Rattle.sp_host.specs.declared.host.Port.TheVariants.{Out, Err, Report}
+use Rattle.sp_host.specs.Count.{one_more}
 
 pub record Faults : Type 0 where
   pub file : ℕ
@@ -31,26 +32,23 @@ with_count (To Out) n f = record f { out = n }
 with_count (To Err) n f = record f { err = n }
 with_count (To Report) n f = record f { report = n }
 
--- A count rose. It stands still at 2^64 - 1.
-pub record Rises (old new : ℕ) : Type 0 where
-  pub never_falls : old ≤ new
-  pub rose : old < 2 ^ 64 - 1 → old < new
-  pub stays : 2 ^ 64 - 1 ≤ old → new ≡ old
+-- The count of this source rose by one, and no other changed.
+abbrev pub Faulted : Source → Faults → Faults → Type 0
+Faulted source old new = new ≡ with_count source (one_more (count_of source old)) old
 
--- The count of this source rose, and no other changed.
-pub record Faulted (source : Source) (old new : Faults) : Type 0 where
-  pub count : ℕ
-  pub others : new ≡ with_count source count old
-  pub rises : Rises (count_of source old) count
-
--- A call failed exactly where the count of its source rose, and no other count changed.
+-- A call failed exactly where the count of its source rose, by one, and no other count changed.
 abbrev pub Counts : {T E : Type 0} → Source → Faults → Faults → Result T E → Type 0
 Counts source old new result = MatchResult result (λ _. new ≡ old) (λ _. Faulted source old new)
 
--- The count of this source rose and no other changed, or none did.
+-- The count of this source rose by one and no other changed, or none did.
 abbrev pub Caused : Option Source → Faults → Faults → Type 0
 Caused None old new = new ≡ old
 Caused (Some source) old new = Faulted source old new
+
+-- Of a call whose errors name what they reached: no count changed where it succeeded, and where it
+-- failed that of the error's source rose by one, or none did where it has no source.
+abbrev pub CausedIn : {T E : Type 0} → (E → Option Source) → Faults → Faults → Result T E → Type 0
+CausedIn source_of old new result = MatchResult result (λ _. new ≡ old) (λ e. Caused (source_of e) old new)
 
 abbrev pub no_faults : Faults
 no_faults = record { file = 0; input = 0; out = 0; err = 0; report = 0 }

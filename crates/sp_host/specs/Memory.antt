@@ -1,15 +1,21 @@
 -- What a host in memory has.
-use Rattle.std.specs.Prelude.{ℕ, List, [], ◌∷◌, drop, Some, Vec, String, string_bytes, if◌then◌else◌, nat_eq}
+use Rattle.std.specs.Prelude.{ℕ, List, [], ◌∷◌, map, drop, if◌then◌else◌, nat_eq, Some}
+use Rattle.std.specs.Prelude.{Vec, String, string_bytes}
 use Rattle.std.specs.Cmp.Lexicographic.{pointwise}
+use Rattle.std.specs.FinMap.{from_entries}
 use Rattle.std.specs.declared.alloc.Global.{Global}
-use Rattle.sp_host.specs.Told.{Told}
+use Rattle.sp_host.specs.Told.{Told, Files}
 use Rattle.sp_host.specs.Faults.{Faults}
 use Rattle.sp_host.specs.Plan.{Calls, MemoryState}
 use Rattle.sp_host.specs.declared.memory.Meter.{Meter}
 use Rattle.sp_host.specs.declared.memory.Tape.{Tape}
 use Rattle.sp_host.specs.declared.memory.MemoryHost.{MemoryHost}
 
--- The first file of this name counts. A name that isn't in the list reads as an empty file.
+-- The files of these names. Of several with one name the first counts.
+abbrev pub files_of : List (String Global × Vec ℕ Global) → Files
+files_of files = from_entries (map (λ file. (string_bytes file.0, file.1.items)) files)
+
+-- the bytes of the first file of a name, none where no file has it: what that map has there
 abbrev pub file_named : List (String Global × Vec ℕ Global) → List ℕ → List ℕ
 file_named [] name = []
 file_named (file ∷ files) name =
@@ -21,7 +27,7 @@ tape_left t = drop t.at t.items.items
 
 abbrev pub memory_told : MemoryHost → Told
 memory_told h = record {
-  files = Some (file_named h.files.items);
+  files = Some (files_of h.files.items);
   input = Some (tape_left h.input);
   moments = Some (drop h.moments_at h.moments.items);
   out = Some h.out.bytes.items;
@@ -51,3 +57,7 @@ memory_of h = record {
   most = h.most;
   room = h.room;
 }
+
+-- how far its files were asked for
+abbrev pub memory_reach : MemoryHost → ℕ
+memory_reach h = h.reach

@@ -53,6 +53,7 @@ IsPlanned source m = Contains (calls_of source m).planned (next_call (calls_of s
 abbrev pub IsFull : Port → MemoryState → Told → Type 0
 IsFull port m told = IfSome (written_to port told) (λ bytes. m.room ≤ length bytes)
 
--- how many bytes a call moves: as many as the plan, the buffer or piece, and what is left or free allow
+-- how many bytes a call moves: as many as the plan, the buffer or piece, and what is left or free
+-- allow
 abbrev pub count_moved : ℕ → ℕ → ℕ → ℕ
 count_moved most size available = min most (min size available)

@@ -6,7 +6,14 @@ use Rattle.sp_host.specs.declared.real.StdHost.{StdHost}
 
 -- Nothing is told of the system.
 abbrev pub nothing_told : Told
-nothing_told = record { files = None; input = None; moments = None; out = None; err = None; report = None }
+nothing_told = record {
+  files = None;
+  input = None;
+  moments = None;
+  out = None;
+  err = None;
+  report = None;
+}
 
 abbrev pub real_faults : StdHost → Faults
 real_faults h = record {

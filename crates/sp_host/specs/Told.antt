@@ -1,12 +1,22 @@
 -- What a host tells of the outside, each part optionally, and what a call does to it.
 use Rattle.std.specs.Prelude.{◌≡◌, ℕ, ◌<◌, ◌≤◌, List, [], ◌++◌, length, take, drop, Option, Some}
-use Rattle.std.specs.Option.{option_map}
+use Rattle.std.specs.Option.{option_map, unwrap_or}
+use Rattle.std.specs.Ordering.{nat_cmp}
+use Rattle.std.specs.Cmp.Lexicographic.{slice_cmp}
+use Rattle.std.specs.FinMap.{FinMap, get}
 use Rattle.sp_host.specs.declared.host.Port.{Port}
 use Rattle.sp_host.specs.declared.host.Port.TheVariants.{Out, Err, Report}
 
+-- the bytes of each file, by the bytes of its name
+abbrev pub Files : Type 0
+Files = FinMap (slice_cmp nat_cmp) (List ℕ)
+
+-- the bytes of a file of this name. One that isn't there reads as empty.
+abbrev pub file_of : Files → List ℕ → List ℕ
+file_of files name = unwrap_or (get files name) []
+
 pub record Told : Type 0 where
-  -- the bytes of each file, by its name
-  pub files : Option (List ℕ → List ℕ)
+  pub files : Option Files
   -- the bytes of the input that are left
   pub input : Option (List ℕ)
   -- the moments that are left, in nanoseconds

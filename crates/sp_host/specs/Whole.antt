@@ -5,6 +5,10 @@ use Rattle.sp_host.specs.Faults.Source.{File}
 use Rattle.sp_host.specs.declared.whole.ReadFault.{ReadFault}
 use Rattle.sp_host.specs.declared.whole.ReadFault.TheVariants.{FileFault, FileTooLarge, NoMemory}
 
+-- the most bytes that a file may have to be read whole
+abbrev pub most_file : ℕ
+most_file = 33554432
+
 -- the call that a fault comes from
 abbrev pub fault_source : ReadFault → Option Source
 fault_source FileFault = Some File
@@ -15,7 +19,7 @@ fault_source NoMemory = None
 abbrev pub FaultFits : ReadFault → ℕ → ℕ → Type 0
 FaultFits FileFault most size = ⊤
 FaultFits FileTooLarge most size = most < size
-FaultFits NoMemory most size = ⊤
+FaultFits NoMemory most size = 0 < size
 
 -- the first bytes of a file
 pub record IsFront (bytes file : List ℕ) : Type 0 where

@@ -1,6 +1,8 @@
 // The outside as a trait. What a host tells of it is optional; how often calls failed is not.
-ghost use Rattle.std.specs.Prelude.{◌≡◌, ◌<◌, ◌≤◌, length, take, drop, slice_index, IfOk, MatchResult};
-ghost use Rattle.sp_host.specs.Told.{Told, WhereTold, Gives, sent, input_taken, moment_taken};
+ghost use Rattle.std.specs.Prelude.{◌≡◌, ℕ, ◌<◌, ◌≤◌, ◌+◌, max, length, take, drop, slice_index};
+ghost use Rattle.std.specs.Prelude.{IfOk, MatchResult};
+ghost use Rattle.sp_host.specs.Told.{Told, WhereTold, file_of, Gives};
+ghost use Rattle.sp_host.specs.Told.{sent, input_taken, moment_taken};
 ghost use Rattle.sp_host.specs.Faults.{Faults, Counts};
 ghost use Rattle.sp_host.specs.Faults.Source.{File, Input, To};
 ghost use Rattle.sp_host.specs.Count.{one_more};
@@ -32,9 +34,9 @@ impl Failed {
 
 /// The files, the input, the clock and the ports that a program reaches.
 ///
-/// A host counts the calls that fail, one count for each kind of call: files, input, and each port. A call
-/// fails exactly where its count rises, and then it took and wrote nothing. A count stands still at
-/// `u64::MAX`.
+/// A host counts the calls that fail, one count for each kind of call: files, input, and each port.
+/// A call fails exactly where its count rises, by one, and then it took and wrote nothing. A count
+/// stands still at `u64::MAX`.
 pub trait Host {
     /// What is told of the outside.
     ghost told: { Self → Told };
@@ -42,38 +44,49 @@ pub trait Host {
     /// How often each kind of call has failed.
     ghost faults: { Self → Faults };
 
+    /// How far files were asked for: no call asked for a byte of a file at or past this place. It
+    /// is a bound from above, so a host that keeps no such number shows 0.
+    ghost reach: { Self → ℕ };
+
     /// Reads the bytes of a file from byte `at` on into the front of `buf`, and answers how many.
     /// 0 is the end of the file.
     fn read_file(&mut self, name: &str, at: u64, buf: &mut [u8]) -> Result<usize, Failed>
         requires { 0 < length buf.old }
         ensures bound { IfOk result (λ n. n ≤ length buf.new) }
         ensures bytes { IfOk result (λ n. WhereTold (told self.old).files (λ files.
-            Gives (drop at (files name.now)) n buf.new)) }
+            Gives (drop at (file_of files name.now)) n buf.new)) }
         ensures told { told self.new ≡ told self.old }
-        ensures faults { Counts File (faults self.old) (faults self.new) result };
+        ensures faults { Counts File (faults self.old) (faults self.new) result }
+        ensures reach { reach self.new ≤ max (reach self.old) (at + length buf.old) };
 
     /// Takes bytes from the front of the input into the front of `buf`, and answers how many.
     /// 0 is the end of the input.
     fn read_input(&mut self, buf: &mut [u8]) -> Result<usize, Failed>
         requires { 0 < length buf.old }
         ensures bound { IfOk result (λ n. n ≤ length buf.new) }
-        ensures bytes { IfOk result (λ n. WhereTold (told self.old).input (λ left. Gives left n buf.new)) }
+        ensures bytes { IfOk result (λ n. WhereTold (told self.old).input (λ left.
+            Gives left n buf.new)) }
         ensures told { MatchResult result (λ n. told self.new ≡ input_taken n (told self.old))
             (λ _. told self.new ≡ told self.old) }
-        ensures faults { Counts Input (faults self.old) (faults self.new) result };
+        ensures faults { Counts Input (faults self.old) (faults self.new) result }
+        ensures reach { reach self.new ≤ reach self.old };
 
     /// Writes the first bytes of a piece, at least one, and answers how many.
     fn write(&mut self, port: Port, bytes: &[u8]) -> Result<usize, Failed>
         requires { 0 < length bytes.now }
         ensures some { IfOk result (λ n. 0 < n) }
         ensures bound { IfOk result (λ n. n ≤ length bytes.now) }
-        ensures told { MatchResult result (λ n. told self.new ≡ sent port (take n bytes.now) (told self.old))
+        ensures told { MatchResult result
+            (λ n. told self.new ≡ sent port (take n bytes.now) (told self.old))
             (λ _. told self.new ≡ told self.old) }
-        ensures faults { Counts (To port) (faults self.old) (faults self.new) result };
+        ensures faults { Counts (To port) (faults self.old) (faults self.new) result }
+        ensures reach { reach self.new ≤ reach self.old };
 
-    /// Takes the first moment that is left, in nanoseconds since 1970, or answers 0 where none is left.
+    /// Takes the first moment that is left, in nanoseconds since 1970, or answers 0 where none is
+    /// left.
     fn now(&mut self) -> u64
         ensures value { WhereTold (told self.old).moments (λ left. result ≡ slice_index left 0) }
         ensures told { told self.new ≡ moment_taken (told self.old) }
-        ensures faults { faults self.new ≡ faults self.old };
+        ensures faults { faults self.new ≡ faults self.old }
+        ensures reach { reach self.new ≤ reach self.old };
 }

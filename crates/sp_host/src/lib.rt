@@ -1,16 +1,14 @@
-//! The outside, as a program sees it: files, input, moments, three ports to write to, and a pacer that says
-//! when it is time.
+//! The outside, as a program sees it: files, input, moments, three ports to write to, and a pacer
+//! that says when it is time.
 //!
-//! [`Host`] and [`Pacer`] are traits. [`MemoryHost`] and [`ListPacer`] follow a plan, and [`StdHost`] is the
-//! system.
+//! [`Host`] and [`Pacer`] are traits. [`MemoryHost`] and [`ListPacer`] follow a plan, and
+//! [`StdHost`] is the system.
 #![tactic(auto)]
 
 mod host;
 mod memory;
 mod pacer;
 mod real;
-#[cfg(test)]
-mod tests;
 mod whole;
 
 pub use host::{Failed, Host, Port};

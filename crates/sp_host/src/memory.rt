@@ -1,5 +1,7 @@
 // A host in memory, with a plan of the calls that fail.
-ghost use Rattle.std.specs.Prelude.{◌≡◌, ◌<◌, ◌≤◌, ◌+◌, ◌-◌, ◌++◌, ◌↔◌, ◌⊎◌, [], length, take, drop, min, slice_index, vec_len, vec_capacity, IfOk, IsErr, MatchResult, Contains};
+ghost use Rattle.std.specs.Prelude.{◌≡◌, ◌<◌, ◌≤◌, ◌+◌, ◌-◌, ◌^◌, ◌++◌, ◌↔◌, ◌⊎◌, [], length};
+ghost use Rattle.std.specs.Prelude.{take, drop, min, max, slice_index, vec_len, vec_capacity};
+ghost use Rattle.std.specs.Prelude.{IfOk, IsErr, MatchResult, Contains};
 ghost use Rattle.sp_host.specs.Told.{Gives};
 ghost use Rattle.sp_host.specs.Count.{one_more};
 ghost use Rattle.sp_host.specs.Plan.{count_moved};
@@ -9,9 +11,9 @@ use std::alloc::{AllocError, Global};
 
 /// Which calls fail, and how many bytes a call moves and a port holds.
 ///
-/// Each of the five lists holds the numbers of the calls of one kind that fail. The first call of a kind has
-/// number 1.
-#[derive(Debug, Drop)]
+/// Each of the five lists holds the numbers of the calls of one kind that fail. The first call of a
+/// kind has number 1.
+#[derive(Drop)]
 pub struct FaultPlan {
     /// Calls of [`Host::read_file`].
     pub file: Vec<u64>,
@@ -143,6 +145,7 @@ impl Sink {
         ensures faults { IfOk result (λ s. s.meter.faults ≡ 0) }
         ensures calls { IfOk result (λ s. s.meter.calls ≡ 0) }
         ensures plan { IfOk result (λ s. s.meter.plan ≡ plan) }
+        ensures memory { IsErr result → 0 < room }
     {
         Ok(Sink {
             bytes: Vec::with_capacity(alloc, room)?,
@@ -150,19 +153,21 @@ impl Sink {
         })
     }
 
-    // Takes at most `most` bytes of a piece, and holds at most `room` bytes. It fails where the plan says so,
-    // and where it is full.
+    // Takes at most `most` bytes of a piece, and holds at most `room` bytes. It fails where the
+    // plan says so, and where it is full.
     fn write(&mut self, piece: &[u8], most: usize, room: usize) -> Result<usize, Failed>
         requires some { 0 < length piece.now }
         requires most { 0 < most }
         requires room { room ≤ vec_capacity self.old.bytes }
         ensures room { room ≤ vec_capacity self.new.bytes }
         ensures failed { IsErr result ↔
-            (Contains self.old.meter.plan.items (one_more self.old.meter.calls) ⊎ (room ≤ length self.old.bytes.items)) }
+            (Contains self.old.meter.plan.items (one_more self.old.meter.calls)
+            ⊎ (room ≤ length self.old.bytes.items)) }
         ensures some { IfOk result (λ n. 0 < n) }
         ensures count { IfOk result (λ n.
             n ≡ count_moved most (length piece.now) (room - length self.old.bytes.items)) }
-        ensures bytes { MatchResult result (λ n. self.new.bytes.items ≡ self.old.bytes.items ++ take n piece.now)
+        ensures bytes { MatchResult result
+            (λ n. self.new.bytes.items ≡ self.old.bytes.items ++ take n piece.now)
             (λ _. self.new.bytes.items ≡ self.old.bytes.items) }
         ensures faults { MatchResult result (λ _. self.new.meter.faults ≡ self.old.meter.faults)
             (λ _. self.new.meter.faults ≡ one_more self.old.meter.faults) }
@@ -177,6 +182,13 @@ impl Sink {
         self.bytes.extend_from_slice(&piece[..count]).unwrap();
         Ok(count)
     }
+}
+
+// The bytes from place `at` on, none where that is past the end.
+fn bytes_from(bytes: &[u8], at: usize) -> &[u8]
+    ensures { result.now ≡ drop at bytes.now }
+{
+    if at < bytes.len() { &bytes[at..] } else { &[] }
 }
 
 // Puts the front of these bytes into a buffer, at most `most` of them.
@@ -206,6 +218,7 @@ pub struct MemoryHost {
     report: Sink,
     most: usize,
     room: usize,
+    reach: u64,
     ghost some: { 0 < most },
     ghost moments_within: { moments_at ≤ vec_len moments },
     ghost out_room: { room ≤ vec_capacity out.bytes },
@@ -215,12 +228,13 @@ pub struct MemoryHost {
 
 impl MemoryHost {
     ghost use Rattle.std.specs.Prelude.{Some};
-    ghost use Rattle.sp_host.specs.Memory.{file_named, memory_told, memory_faults, memory_of};
-    ghost use Rattle.sp_host.specs.Told.{written_to};
+    ghost use Rattle.sp_host.specs.Memory.{files_of, file_named};
+    ghost use Rattle.sp_host.specs.Memory.{memory_told, memory_faults, memory_reach, memory_of};
+    ghost use Rattle.sp_host.specs.Told.{file_of, written_to};
     ghost use Rattle.sp_host.specs.Faults.{no_faults};
 
-    /// A host with these files, this input, these moments and this plan. Of several files with one name the
-    /// first counts, and a name that no file has reads as an empty file.
+    /// A host with these files, this input, these moments and this plan. Of several files with one
+    /// name the first counts, and a name that no file has reads as an empty file.
     pub fn new(
         alloc: Global,
         files: Vec<(String, Vec<u8>)>,
@@ -230,7 +244,7 @@ impl MemoryHost {
     ) -> Result<MemoryHost, AllocError>
         requires { 0 < faults.most }
         ensures told { IfOk result (λ h. memory_told h ≡ record {
-          files = Some (file_named files.items);
+          files = Some (files_of files.items);
           input = Some input.items;
           moments = Some moments.items;
           out = Some [];
@@ -238,6 +252,7 @@ impl MemoryHost {
           report = Some [];
         }) }
         ensures faults { IfOk result (λ h. memory_faults h ≡ no_faults) }
+        ensures reach { IfOk result (λ h. memory_reach h ≡ 0) }
         ensures plan { IfOk result (λ h. memory_of h ≡ record {
           file = record { planned = faults.file.items; made = 0 };
           input = record { planned = faults.input.items; made = 0 };
@@ -247,6 +262,7 @@ impl MemoryHost {
           most = faults.most;
           room = faults.room;
         }) }
+        ensures memory { IsErr result → 0 < faults.room }
     {
         let FaultPlan {
             file,
@@ -269,9 +285,11 @@ impl MemoryHost {
             report: Sink::new(alloc, room, report)?,
             most,
             room,
+            reach: 0,
         })
     }
 
+    // The bytes of the first file of this name.
     fn file(&self, name: &str) -> &[u8]
         ensures { result.now ≡ file_named self.now.files.items name.now }
     {
@@ -281,6 +299,13 @@ impl MemoryHost {
             }
         }
         &[]
+    }
+
+    // The bytes of a file from byte `at` on.
+    fn file_from(&self, name: &str, at: u64) -> &[u8]
+        ensures { result.now ≡ drop at (file_of (files_of self.now.files.items) name.now) }
+    {
+        bytes_from(self.file(name), at as usize)
     }
 
     /// The bytes that a port holds.
@@ -296,36 +321,43 @@ impl MemoryHost {
 }
 
 impl Host for MemoryHost {
-    ghost use Rattle.sp_host.specs.Told.{WhereTold, written_to, sent, input_taken, moment_taken};
+    ghost use Rattle.sp_host.specs.Told.{WhereTold, file_of, written_to};
+    ghost use Rattle.sp_host.specs.Told.{sent, input_taken, moment_taken};
     ghost use Rattle.sp_host.specs.Faults.{Counts};
     ghost use Rattle.sp_host.specs.Faults.Source.{File, Input, To};
     ghost use Rattle.sp_host.specs.Plan.{IsPlanned, IsFull, call_made};
-    ghost use Rattle.sp_host.specs.Memory.{memory_told, memory_faults, memory_of};
+    ghost use Rattle.sp_host.specs.Memory.{memory_told, memory_faults, memory_reach, memory_of};
 
     ghost told = { memory_told };
 
     ghost faults = { memory_faults };
 
+    ghost reach = { memory_reach };
+
     fn read_file(&mut self, name: &str, at: u64, buf: &mut [u8]) -> Result<usize, Failed>
         requires { 0 < length buf.old }
         ensures bound { IfOk result (λ n. n ≤ length buf.new) }
         ensures bytes { IfOk result (λ n. WhereTold (memory_told self.old).files (λ files.
-            Gives (drop at (files name.now)) n buf.new)) }
+            Gives (drop at (file_of files name.now)) n buf.new)) }
         ensures told { memory_told self.new ≡ memory_told self.old }
         ensures faults { Counts File (memory_faults self.old) (memory_faults self.new) result }
+        ensures reach { memory_reach self.new ≤ max (memory_reach self.old) (at + length buf.old) }
 
         // which calls fail, and how many bytes they move, as the plan says
         ensures failed { IsErr result ↔ IsPlanned File (memory_of self.old) }
         ensures count { IfOk result (λ n. WhereTold (memory_told self.old).files (λ files.
             n ≡ count_moved (memory_of self.old).most (length buf.old)
-            (length (drop at (files name.now))))) }
+            (length (drop at (file_of files name.now))))) }
         ensures calls { memory_of self.new ≡ call_made File (memory_of self.old) }
+
+        // it keeps how far it was asked, up to 2^64 - 1
+        ensures reached { memory_reach self.new
+            ≡ max (memory_reach self.old) (min (at + length buf.old) (2 ^ 64 - 1)) }
     {
+        self.reach = self.reach.max(at.saturating_add(buf.len() as u64));
         self.file_meter.call()?;
         let most = self.most;
-        let file = self.file(name);
-        let start = file.len().min(at as usize);
-        Ok(copy_front(&file[start..], most, buf))
+        Ok(copy_front(self.file_from(name, at), most, buf))
     }
 
     fn read_input(&mut self, buf: &mut [u8]) -> Result<usize, Failed>
@@ -333,9 +365,11 @@ impl Host for MemoryHost {
         ensures bound { IfOk result (λ n. n ≤ length buf.new) }
         ensures bytes { IfOk result (λ n. WhereTold (memory_told self.old).input (λ left.
             Gives left n buf.new)) }
-        ensures told { MatchResult result (λ n. memory_told self.new ≡ input_taken n (memory_told self.old))
+        ensures told { MatchResult result
+            (λ n. memory_told self.new ≡ input_taken n (memory_told self.old))
             (λ _. memory_told self.new ≡ memory_told self.old) }
         ensures faults { Counts Input (memory_faults self.old) (memory_faults self.new) result }
+        ensures reach { memory_reach self.new ≤ memory_reach self.old }
 
         // as the plan says
         ensures failed { IsErr result ↔ IsPlanned Input (memory_of self.old) }
@@ -355,11 +389,13 @@ impl Host for MemoryHost {
             (λ n. memory_told self.new ≡ sent port (take n bytes.now) (memory_told self.old))
             (λ _. memory_told self.new ≡ memory_told self.old) }
         ensures faults { Counts (To port) (memory_faults self.old) (memory_faults self.new) result }
+        ensures reach { memory_reach self.new ≤ memory_reach self.old }
 
         // as the plan says
         ensures failed { IsErr result ↔ (IsPlanned (To port) (memory_of self.old)
             ⊎ IsFull port (memory_of self.old) (memory_told self.old)) }
-        ensures count { IfOk result (λ n. WhereTold (written_to port (memory_told self.old)) (λ held.
+        ensures count { IfOk result (λ n.
+            WhereTold (written_to port (memory_told self.old)) (λ held.
             n ≡ count_moved (memory_of self.old).most (length bytes.now)
             ((memory_of self.old).room - length held))) }
         ensures calls { memory_of self.new ≡ call_made (To port) (memory_of self.old) }
@@ -372,9 +408,11 @@ impl Host for MemoryHost {
     }
 
     fn now(&mut self) -> u64
-        ensures value { WhereTold (memory_told self.old).moments (λ left. result ≡ slice_index left 0) }
+        ensures value { WhereTold (memory_told self.old).moments (λ left.
+            result ≡ slice_index left 0) }
         ensures told { memory_told self.new ≡ moment_taken (memory_told self.old) }
         ensures faults { memory_faults self.new ≡ memory_faults self.old }
+        ensures reach { memory_reach self.new ≤ memory_reach self.old }
         ensures calls { memory_of self.new ≡ memory_of self.old }
     {
         if self.moments_at < self.moments.len() {

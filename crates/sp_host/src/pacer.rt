@@ -5,8 +5,8 @@ ghost use Rattle.sp_host.specs.Tally.{Tally, tally_after, later_answers};
 
 /// Says whether it is time to do what is done once in a period.
 ///
-/// It shows the last period that it was given, 0 at first, and how often it was asked and granted, 0 at
-/// first. Both counts stand still at `u64::MAX`.
+/// It shows the last period that it was given, 0 at first, and how often it was asked and granted,
+/// 0 at first. Both counts stand still at `u64::MAX`.
 pub trait Pacer {
     /// The last period that it was given, in milliseconds.
     ghost period_shown: { Self → ℕ };
@@ -31,8 +31,8 @@ pub trait Pacer {
         ensures answers { answers self.new ≡ later_answers (answers self.old) };
 }
 
-/// A pacer that gives the answers of a list in their order, and then false. It tells them, and makes no
-/// use of the period.
+/// A pacer that gives the answers of a list in their order, and then false. It tells them, and
+/// makes no use of the period.
 #[derive(Drop)]
 pub struct ListPacer {
     answers: Vec<bool>,

@@ -4,17 +4,37 @@ ghost use Rattle.sp_host.specs.Faults.{Faulted, no_faults};
 ghost use Rattle.sp_host.specs.Faults.Source.{To};
 
 use crate::{Failed, Host, Port};
-use std::io::{Read, Seek, SeekFrom};
+use std::fs::File;
+use std::io::{ErrorKind, Read, Seek, SeekFrom};
 use std::time::{Clock, SystemTime, UNIX_EPOCH};
 use std::{fs, io};
 
+// The longest name, in bytes, that is kept of an open file.
+const NAME: usize = 255;
+
+// A file that is open, its name, and the place in it up to which it was read.
+#[derive(Drop)]
+struct OpenFile {
+    name: [u8; NAME],
+    // None where the name is too long to be kept
+    name_len: Option<usize>,
+    file: File,
+    at: u64,
+}
+
 /// The system. It counts the calls that fail, and tells nothing.
 ///
-/// [`Port::Out`] is the standard output, and the other two ports are the standard error. The clock answers
-/// nanoseconds since 1970, and 0 where it cannot be read or its time does not fit.
+/// A file stays open between two reads where the second goes on with the name of the first, until a
+/// read meets its end or fails. A read that goes on where the last one ended does not seek, so a
+/// pipe can be read from its start to its end. A call that a signal interrupts is made again, and
+/// is no fault.
+///
+/// [`Port::Out`] is the standard output, and the other two ports are the standard error. The clock
+/// answers nanoseconds since 1970, and 0 where it cannot be read or its time does not fit.
 #[derive(Drop)]
 pub struct StdHost {
     rt: HostRuntime,
+    open: Option<OpenFile>,
     file_faults: u64,
     input_faults: u64,
     out_faults: u64,
@@ -30,6 +50,7 @@ impl StdHost {
     {
         StdHost {
             rt,
+            open: None,
             file_faults: 0,
             input_faults: 0,
             out_faults: 0,
@@ -48,16 +69,103 @@ impl StdHost {
             Port::Report => Failed::counted(&mut self.report_faults),
         }
     }
+
+    // Reads a file from byte `at` on, in the open file where it has this name. It stays open until
+    // its end.
+    fn read_open(&mut self, name: &str, at: u64, buf: &mut [u8]) -> io::Result<usize>
+        ensures bound { IfOk result (λ n. n ≤ length buf.new) }
+        ensures faults { real_faults self.new ≡ real_faults self.old }
+    {
+        let mut file = match self.open.take() {
+            Some(open) if open.is_named(name) => open,
+            _ => OpenFile::open(&self.rt, name)?,
+        };
+        let count = file.read_at(at, buf)?;
+        if count > 0 {
+            self.open = Some(file);
+        }
+        Ok(count)
+    }
 }
 
-fn read_at(rt: &HostRuntime, name: &str, at: u64, buf: &mut [u8]) -> io::Result<usize>
+impl OpenFile {
+    fn open(rt: &HostRuntime, name: &str) -> io::Result<OpenFile> {
+        let mut open = OpenFile {
+            name: [0; NAME],
+            name_len: None,
+            file: open(rt, name)?,
+            at: 0,
+        };
+        if name.len() <= NAME {
+            open.name[..name.len()].copy_from_slice(name.as_bytes());
+            open.name_len = Some(name.len());
+        }
+        Ok(open)
+    }
+
+    fn is_named(&self, name: &str) -> bool {
+        self.name_len == Some(name.len()) && self.name.starts_with(name.as_bytes())
+    }
+
+    // Reads from byte `at` on. Where the last read did not end there, it seeks.
+    fn read_at(&mut self, at: u64, buf: &mut [u8]) -> io::Result<usize>
+        ensures { IfOk result (λ n. n ≤ length buf.new) }
+    {
+        if at != self.at {
+            self.file.seek(SeekFrom::Start(at))?;
+        }
+        let count = read(&mut self.file, buf)?;
+        self.at = at.saturating_add(count as u64);
+        Ok(count)
+    }
+}
+
+// Whether a signal interrupted the call.
+fn is_interrupted<T>(call: &io::Result<T>) -> bool {
+    match call {
+        Ok(_) => false,
+        Err(e) => e.kind() == ErrorKind::Interrupted,
+    }
+}
+
+// Opens a file to read it, again where a signal interrupts that.
+fn open(rt: &HostRuntime, name: &str) -> io::Result<File> {
+    for _ in 0..u64::MAX {
+        let opened = fs::open(rt, name);
+        if !is_interrupted(&opened) {
+            return opened;
+        }
+    }
+    Err(ErrorKind::Interrupted.into())
+}
+
+// Reads once, again where a signal interrupts that.
+fn read<R: Read>(reader: &mut R, buf: &mut [u8]) -> io::Result<usize>
     ensures { IfOk result (λ n. n ≤ length buf.new) }
 {
-    let mut file = fs::open(rt, name)?;
-    file.seek(SeekFrom::Start(at))?;
-    file.read(buf)
+    for _ in 0..u64::MAX {
+        let taken = reader.read(buf);
+        if !is_interrupted(&taken) {
+            return taken;
+        }
+    }
+    Err(ErrorKind::Interrupted.into())
 }
 
+// Writes once, again where a signal interrupts that.
+fn write<P: Print>(stream: &P, bytes: &[u8]) -> io::Result<usize>
+    ensures { IfOk result (λ n. n ≤ length bytes.now) }
+{
+    for _ in 0..u64::MAX {
+        let taken = stream.write_some(bytes);
+        if !is_interrupted(&taken) {
+            return taken;
+        }
+    }
+    Err(ErrorKind::Interrupted.into())
+}
+
+// The time of the system's clock in nanoseconds, where it can be read and fits.
 fn nanos_since_1970(rt: &impl Clock) -> Option<u64> {
     let time = SystemTime::now(rt).ok()?;
     let passed = time.duration_since(UNIX_EPOCH).ok()?;
@@ -71,15 +179,17 @@ impl Host for StdHost {
 
     ghost faults = { real_faults };
 
+    ghost reach = { λ _. 0 };
+
     fn read_file(&mut self, name: &str, at: u64, buf: &mut [u8]) -> Result<usize, Failed> {
-        match read_at(&self.rt, name, at, buf) {
+        match self.read_open(name, at, buf) {
             Ok(n) => Ok(n),
             Err(_) => Err(Failed::counted(&mut self.file_faults)),
         }
     }
 
     fn read_input(&mut self, buf: &mut [u8]) -> Result<usize, Failed> {
-        match self.rt.stdin().lock().read(buf) {
+        match read(&mut self.rt.stdin().lock(), buf) {
             Ok(n) => Ok(n),
             Err(_) => Err(Failed::counted(&mut self.input_faults)),
         }
@@ -88,8 +198,8 @@ impl Host for StdHost {
     // A stream that takes nothing failed too.
     fn write(&mut self, port: Port, bytes: &[u8]) -> Result<usize, Failed> {
         let taken = match port {
-            Port::Out => self.rt.stdout().write_some(bytes),
-            Port::Err | Port::Report => self.rt.stderr().write_some(bytes),
+            Port::Out => write(&self.rt.stdout(), bytes),
+            Port::Err | Port::Report => write(&self.rt.stderr(), bytes),
         };
         match taken {
             Ok(n) if n > 0 => Ok(n),

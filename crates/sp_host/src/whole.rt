@@ -1,14 +1,14 @@
 // Whole pieces and whole files.
-ghost use Rattle.std.specs.Prelude.{◌≡◌, ◌<◌, ◌≤◌, ◌+◌, ◌^◌, ◌≢◌, length, vec_len, MatchResult, IfOk, IfErr, IsTrue, false};
-ghost use Rattle.sp_host.specs.Told.{sent, PartSent, WhereTold};
-ghost use Rattle.sp_host.specs.Faults.{Counts, Caused};
+ghost use Rattle.std.specs.Prelude.{◌≡◌, ℕ, ◌<◌, ◌≤◌, ◌+◌, ◌^◌, max, length, vec_len, false};
+ghost use Rattle.std.specs.Prelude.{MatchResult, IfOk, IfErr, IsTrue};
+ghost use Rattle.sp_host.specs.Told.{sent, PartSent, WhereTold, file_of};
+ghost use Rattle.sp_host.specs.Faults.{Counts, CausedIn};
 ghost use Rattle.sp_host.specs.Faults.Source.{To};
-ghost use Rattle.sp_host.specs.Whole.{fault_source, FaultFits, IsFront};
+ghost use Rattle.sp_host.specs.Whole.{most_file, fault_source, FaultFits, IsFront};
 ghost use Rattle.sp_host.specs.declared.whole.ReadFault.TheVariants.{FileFault, NoMemory};
 
 use crate::{Failed, Host, Port};
 use std::alloc::{AllocError, Global};
-use thiserror::Error;
 
 /// The most bytes that a file may have for [`read_whole`].
 pub const MAX_FILE: usize = 33_554_432;
@@ -16,15 +16,13 @@ pub const MAX_FILE: usize = 33_554_432;
 const PIECE: usize = 8192;
 
 /// Why a file wasn't read whole.
-#[derive(Clone, Copy, Debug, PartialEq, Eq, Error)]
+#[derive(Clone, Copy, Debug, PartialEq, Eq)]
 pub enum ReadFault {
     /// A read failed, and the host counted it.
-    #[error("the file cannot be read")]
     FileFault,
     /// The file has more bytes than it may.
-    #[error("the file is too large")]
     FileTooLarge,
-    #[error("out of memory")]
+    /// There is no memory for the bytes of the file.
     NoMemory,
 }
 
@@ -50,6 +48,7 @@ pub fn write_whole<H: Host>(host: &mut H, port: Port, bytes: &[u8]) -> Result<()
     ensures told { MatchResult result (λ _. H.told host.new ≡ sent port bytes.now (H.told host.old))
         (λ _. PartSent port bytes.now (H.told host.old) (H.told host.new)) }
     ensures faults { Counts (To port) (H.faults host.old) (H.faults host.new) result }
+    ensures reach { H.reach host.new ≤ H.reach host.old }
 {
     let mut at = 0;
     while at < bytes.len() {
@@ -58,14 +57,16 @@ pub fn write_whole<H: Host>(host: &mut H, port: Port, bytes: &[u8]) -> Result<()
     Ok(())
 }
 
-/// All the bytes of a file that has at most [`MAX_FILE`] of them.
+/// All the bytes of a file that has at most [`MAX_FILE`] of them. It asks for one byte more at
+/// most.
 pub fn read_whole<H: Host>(alloc: Global, host: &mut H, name: &str) -> Result<Vec<u8>, ReadFault>
-    ensures size { IfOk result (λ v. vec_len v ≤ MAX_FILE) }
+    ensures size { IfOk result (λ v. vec_len v ≤ most_file) }
     ensures bytes { WhereTold (H.told host.old).files (λ files.
-        MatchResult result (λ v. v.items ≡ files name.now) (λ e. FaultFits e MAX_FILE (length (files name.now)))) }
+        MatchResult result (λ v. v.items ≡ file_of files name.now)
+        (λ e. FaultFits e most_file (length (file_of files name.now)))) }
     ensures told { H.told host.new ≡ H.told host.old }
-    ensures faults { MatchResult result (λ _. H.faults host.new ≡ H.faults host.old)
-        (λ e. Caused (fault_source e) (H.faults host.old) (H.faults host.new)) }
+    ensures faults { CausedIn fault_source (H.faults host.old) (H.faults host.new) result }
+    ensures reach { H.reach host.new ≤ max (H.reach host.old) (most_file + 1) }
 {
     read_within(alloc, host, name, MAX_FILE)
 }
@@ -83,10 +84,11 @@ pub fn read_within<H: Host>(
     requires { most < 2 ^ 63 }
     ensures size { IfOk result (λ v. vec_len v ≤ most) }
     ensures bytes { WhereTold (H.told host.old).files (λ files.
-        MatchResult result (λ v. v.items ≡ files name.now) (λ e. FaultFits e most (length (files name.now)))) }
+        MatchResult result (λ v. v.items ≡ file_of files name.now)
+        (λ e. FaultFits e most (length (file_of files name.now)))) }
     ensures told { H.told host.new ≡ H.told host.old }
-    ensures faults { MatchResult result (λ _. H.faults host.new ≡ H.faults host.old)
-        (λ e. Caused (fault_source e) (H.faults host.old) (H.faults host.new)) }
+    ensures faults { CausedIn fault_source (H.faults host.old) (H.faults host.new) result }
+    ensures reach { H.reach host.new ≤ max (H.reach host.old) (most + 1) }
 {
     let mut bytes = Vec::new(alloc);
     let mut buf = [0u8; PIECE];
@@ -99,8 +101,8 @@ pub fn read_within<H: Host>(
     Err(ReadFault::FileTooLarge)
 }
 
-// Reads a piece of a file into a buffer and from there behind the bytes so far, and answers whether there
-// was one.
+// Reads a piece of a file into a buffer and from there behind the bytes so far, and answers whether
+// there was one.
 fn read_piece<H: Host>(
     host: &mut H,
     name: &str,
@@ -112,13 +114,16 @@ fn read_piece<H: Host>(
     ensures longer { IfOk result (λ more. IsTrue more → vec_len bytes.old < vec_len bytes.new) }
     ensures none { IfOk result (λ more. more ≡ false → vec_len bytes.new ≡ vec_len bytes.old) }
     ensures bytes { WhereTold (H.told host.old).files (λ files. IfOk result (λ more.
-        IsFront bytes.old.items (files name.now) → IsFront bytes.new.items (files name.now))) }
+        IsFront bytes.old.items (file_of files name.now)
+        → IsFront bytes.new.items (file_of files name.now))) }
     ensures end { WhereTold (H.told host.old).files (λ files. IfOk result (λ more.
-        IsFront bytes.old.items (files name.now) → more ≡ false → bytes.new.items ≡ files name.now)) }
+        IsFront bytes.old.items (file_of files name.now) → more ≡ false
+        → bytes.new.items ≡ file_of files name.now)) }
+    ensures fits { WhereTold (H.told host.old).files (λ files. IfErr result (λ e.
+        (most : ℕ) → FaultFits e most (length (file_of files name.now)))) }
     ensures told { H.told host.new ≡ H.told host.old }
-    ensures faults { MatchResult result (λ _. H.faults host.new ≡ H.faults host.old)
-        (λ e. Caused (fault_source e) (H.faults host.old) (H.faults host.new)) }
-    ensures not_too_large { IfErr result (λ e. e ≢ ReadFault.FileTooLarge) }
+    ensures faults { CausedIn fault_source (H.faults host.old) (H.faults host.new) result }
+    ensures reach { H.reach host.new ≤ max (H.reach host.old) (vec_len bytes.old + length buf.old) }
 {
     let count = host.read_file(name, bytes.len() as u64, buf)?;
     bytes.extend_from_slice(&buf[..count])?;

@@ -1,5 +1,5 @@
-use Rattle.std.proofs.Common.{◌≡◌, ◌≤◌, ◌-◌, ◌+◌, vec_len}
-use Rattle.sp_host.specs.Told.{WhereTold}
+use Rattle.std.proofs.Common.{◌≡◌, ◌≤◌, ◌-◌, ◌+◌, max, vec_len}
+use Rattle.sp_host.specs.Told.{WhereTold, file_of}
 use Rattle.sp_host.specs.Whole.{IsFront}
 use Rattle.sp_host.proofs.whole.read_within.Given as goal
 
@@ -7,11 +7,13 @@ abbrev pub invariant-pieces : goal.invariant-pieces
 invariant-pieces g l =
     let told = g.H.Host.told in
     let faults = g.H.Host.faults in
+    let reach = g.H.Host.reach in
     record {
       size : vec_len l.bytes ≤ l.most + 1;
       same_told : told l.host ≡ told l.fn.host;
       same_faults : faults l.host ≡ faults l.fn.host;
-      bytes : WhereTold (told l.fn.host).files (λ files. IsFront l.bytes.items (files l.name));
+      reach : reach l.host ≤ max (reach l.fn.host) (l.most + 1);
+      bytes : WhereTold (told l.fn.host).files (λ files. IsFront l.bytes.items (file_of files l.name));
     }
 
 abbrev pub decreases-pieces : goal.decreases-pieces
