@@ -9,7 +9,7 @@ use Rattle.elf_load.specs.declared.fields.ProgramHeader.{ProgramHeader}
 use Rattle.elf_load.specs.declared.fields.SectionHeader.{SectionHeader}
 use Rattle.elf_load.specs.declared.fields.Symbol.{Symbol}
 use Rattle.elf_load.specs.Header.{file_header, section, section_headers, symbol_at}
-use Rattle.elf_load.specs.Image.{FunctionFields}
+use Rattle.elf_load.specs.Image.{FunctionFields, name_at}
 use Rattle.elf_load.specs.Tests.{is_code}
 
 -- the first section of type SHT_SYMTAB
@@ -80,9 +80,9 @@ by_address ((address, x) ∷ rest) = insert_entry nat_cmp (by_address rest) addr
 abbrev pub function_entry : List ProgramHeader → Symbol → Option (ℕ × ℕ)
 function_entry headers symbol = if is_function symbol && is_code symbol.value (symbol.value + 1) headers then Some (symbol.value, symbol.name) else None
 
--- the function at an address, with the name that begins at an offset of these bytes and ends before a zero
+-- the function at an address, with the name that begins at an offset of a string table
 abbrev pub function_named : List ℕ → ℕ × ℕ → FunctionFields
-function_named bytes (start, at) = record { start = start; name = take_while (λ byte. not (byte == 0)) (drop at bytes) }
+function_named table (start, at) = record { start = start; name = name_at table at }
 
 -- the functions in use in code that a table names, in order of address
 unfoldable pub table_functions : List ℕ → List ProgramHeader → SectionHeader → List FunctionFields

@@ -3,6 +3,7 @@
 use Rattle.std.specs.Prelude.{ℕ, ◌+◌, ◌-◌, ◌*◌, ◌/◌, ◌%◌, ◌==◌, nat_eq, nat_lt, nat_le, Bool, ◌&&◌, ◌||◌, not, if◌then◌else◌, List, [], ◌∷◌, length, take, slice_index, bit_and, Option, Some, None, filter, sum_by, position}
 use Rattle.std.specs.List.{starts_with, list_any, enumerate_from}
 use Rattle.std.specs.Int.{is_power_of_two}
+use Rattle.elf_load.specs.Limits.{page_size, most_headers, user_start, user_end, most_pages, stack_pages}
 use Rattle.elf_load.specs.declared.fields.FileHeader.{FileHeader}
 use Rattle.elf_load.specs.declared.fields.ProgramHeader.{ProgramHeader}
 use Rattle.elf_load.specs.declared.fault.ElfFault.{ElfFault}
@@ -37,12 +38,12 @@ is_32_bit_little file = (slice_index file 4 == 1) && (slice_index file 5 == 1)
 abbrev pub has_unsupported_flags : FileHeader → Bool
 has_unsupported_flags header = not (bit_and header.flags 0xf == 0)
 
--- there are 1 to 32 program headers of 32 bytes, and any section headers have 40 bytes
+-- there are program headers, each of 32 bytes, and not too many, and any section headers have 40 bytes
 abbrev pub has_header_sizes : FileHeader → Bool
 has_header_sizes header =
     (header.program_header_size == 32)
     && nat_le 1 header.program_header_count
-    && nat_le header.program_header_count 32
+    && nat_le header.program_header_count most_headers
     && ((header.section_header_count == 0) || (header.section_header_size == 40))
 
 -- both tables end in a file of this size
@@ -100,10 +101,10 @@ is_malformed header =
 
 -- the numbers of a segment's first and last page, and how many pages it is in
 abbrev pub first_page : ProgramHeader → ℕ
-first_page header = header.address / 4096
+first_page header = header.address / page_size
 
 abbrev pub last_page : ProgramHeader → ℕ
-last_page header = (header.address + header.memory_size - 1) / 4096
+last_page header = (header.address + header.memory_size - 1) / page_size
 
 abbrev pub page_count : ProgramHeader → ℕ
 page_count header = last_page header + 1 - first_page header
@@ -115,9 +116,9 @@ have_page_in_common a b = nat_le (first_page a) (last_page b) && nat_le (first_p
 abbrev pub shares_page : List ProgramHeader → ProgramHeader → Bool
 shares_page others header = list_any (λ other. is_segment other && have_page_in_common other header) others
 
--- it begins in the first page, or ends above 0x40000000
+-- it begins before the user's memory, or ends behind it
 abbrev pub is_outside_user : ProgramHeader → Bool
-is_outside_user header = nat_lt header.address 0x1000 || nat_lt 0x40000000 (header.address + header.memory_size)
+is_outside_user header = nat_lt header.address user_start || nat_lt user_end (header.address + header.memory_size)
 
 -- the first segment that a test is true of, by its index in the table
 unfoldable pub first_segment : (ProgramHeader → Bool) → List ProgramHeader → Option ℕ
@@ -130,9 +131,9 @@ is_sharing headers (k, header) = is_segment header && shares_page (take k header
 unfoldable pub first_sharing : List ProgramHeader → Option ℕ
 first_sharing headers = position (is_sharing headers) (enumerate_from 0 headers)
 
--- the pages of all segments and 256 pages of the stack are more than 16,384
+-- the pages of all segments and of the stack are too many
 unfoldable pub are_too_many_pages : List ProgramHeader → Bool
-are_too_many_pages headers = nat_lt 16384 (sum_by page_count (filter is_segment headers) + 256)
+are_too_many_pages headers = nat_lt most_pages (sum_by page_count (filter is_segment headers) + stack_pages)
 
 -- the bytes from one address to another are in the segment's memory
 abbrev pub holds : ℕ → ℕ → ProgramHeader → Bool

@@ -30,7 +30,7 @@ pub struct FileHeader {
 }
 
 /// The fields of a program header (`Elf32_Phdr`) that the loader reads.
-#[derive(Clone, Copy)]
+#[derive(Clone, Copy, Default)]
 pub struct ProgramHeader {
     /// `p_type`
     pub kind: u32,

@@ -1,17 +1,19 @@
 // The functions that the symbol table names.
-ghost use Rattle.std.specs.Prelude.{◌≡◌, ◌==◌, true, false, not, length, drop, map, take_while, IfOk};
+ghost use Rattle.std.specs.Prelude.{◌≡◌, true, false, length, map, IfOk};
+ghost use Rattle.std.specs.Arc.{arc_value};
 ghost use Rattle.std.specs.List.{filter_map};
 ghost use Rattle.elf_load.specs.Header.{file_header};
 ghost use Rattle.elf_load.specs.Symbols.{section_ends_past_file, symbols, names, by_address, function_entry, function_named, is_bad_table, table_functions, symbol_table, are_bad_symbols, functions};
 ghost use Rattle.elf_load.specs.Tests.{has_tables};
 
 use crate::fields::{FileHeader, ProgramHeader, SectionHeader, symbol_at};
-use crate::image::Function;
+use crate::image::{Function, Name};
 use crate::segment_checks::is_code;
 use crate::symbol_checks::{SYMBOL, is_function, section_bytes};
 use crate::tables::section;
 use std::alloc::{AllocError, Global};
 use std::collections::BTreeMap;
+use std::sync::Arc;
 
 // The address of each function in use in code and the offset of its name, in order of address. The table is
 // read from its end, so that the first of several at one address stays.
@@ -37,34 +39,27 @@ fn entries(
     Ok(entries)
 }
 
-// The bytes from place `at` on, none where that is past the end.
-fn bytes_from(bytes: &[u8], at: usize) -> &[u8]
-    ensures { result.now ≡ drop at bytes.now }
+// A copy of these bytes that several can own.
+fn shared(alloc: Global, bytes: &[u8]) -> Result<Arc<Vec<u8>>, AllocError>
+    ensures { IfOk result (λ copy. (arc_value copy).items ≡ bytes.now) }
 {
-    if at < bytes.len() { &bytes[at..] } else { &[] }
+    Ok(Arc::new(alloc, bytes.to_vec(alloc)?)?)
 }
 
-// The name that begins at offset `at` of the names, without its final zero byte.
-fn name_at(alloc: Global, names: &[u8], at: u32) -> Result<Vec<u8>, AllocError>
-    ensures { IfOk result (λ name. name.items ≡ take_while (λ byte. not (byte == 0)) (drop at names.now)) }
+// The functions of these entries, whose names stand in this table.
+fn named(
+    alloc: Global,
+    table: &Arc<Vec<u8>>,
+    entries: &[(u32, u32)],
+) -> Result<Vec<Function>, AllocError>
+    ensures { IfOk result (λ functions.
+        functions.items ≡ map (function_named (arc_value table.now).items) entries.now) }
 {
-    bytes_from(names, at as usize)
-        .iter()
-        .copied()
-        .take_while(|byte| *byte != 0)
-        .collect(alloc)
-}
-
-// The functions of these entries.
-fn named(alloc: Global, names: &[u8], entries: &[(u32, u32)]) -> Result<Vec<Function>, AllocError>
-    ensures { IfOk result (λ functions. functions.items ≡ map (function_named names.now) entries.now) }
-{
-    let mut functions = Vec::new(alloc);
+    let mut functions = Vec::with_capacity(alloc, entries.len())?;
     for (start, at) in entries {
-        let name = name_at(alloc, names, *at)?;
         functions.push(Function {
             start: *start,
-            name,
+            name: Name::new(Arc::try_clone(table)?, *at),
         })?;
     }
     Ok(functions)
@@ -101,7 +96,8 @@ fn table_functions(
     ensures { IfOk result (λ functions. functions.items ≡ table_functions file.now headers.now table.now) }
 {
     let entries = pairs(alloc, entries(alloc, file, table, headers)?)?;
-    named(alloc, names(file, header, table), &entries)
+    let names = shared(alloc, names(file, header, table))?;
+    named(alloc, &names, &entries)
 }
 
 /// The functions in use in code that the file's symbol table names, in order of address; none if it has no

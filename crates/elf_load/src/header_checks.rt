@@ -1,5 +1,6 @@
 // The tests of the file header.
 ghost use Rattle.std.specs.Prelude.{◌≡◌, ◌≤◌, true, length, IfNone};
+ghost use Rattle.elf_load.specs.Limits.{most_headers};
 ghost use Rattle.elf_load.specs.Tests.{first_fault, identification_tests, header_tests, has_unsupported_flags, has_header_sizes, has_tables};
 
 use crate::fault::ElfFault;
@@ -19,7 +20,7 @@ const RISCV: u16 = 243;
 const UNSUPPORTED_FLAGS: u32 = 0xf;
 
 // The most program headers that a file may have.
-const MAX_PROGRAM_HEADERS: u16 = 32;
+pub const MAX_PROGRAM_HEADERS: usize = 32;
 
 /// The first fault of the bytes that say what kind of file it is.
 pub fn identification_fault(file: &[u8]) -> Option<ElfFault>
@@ -41,7 +42,7 @@ pub fn identification_fault(file: &[u8]) -> Option<ElfFault>
 /// The first fault of the file header, in a file of `size` bytes.
 pub fn header_fault(header: &FileHeader, size: usize) -> Option<ElfFault>
     ensures first { result ≡ first_fault (header_tests header.now size) }
-    ensures few { IfNone result (header.now.program_header_count ≤ 32) }
+    ensures few { IfNone result (header.now.program_header_count ≤ most_headers) }
     ensures tables { IfNone result (has_tables header.now size ≡ true) }
 {
     if header.file_type != 2 {
@@ -77,7 +78,7 @@ fn has_header_sizes(header: &FileHeader) -> bool
 {
     header.program_header_size as usize == PROGRAM_HEADER
         && header.program_header_count >= 1
-        && header.program_header_count <= MAX_PROGRAM_HEADERS
+        && header.program_header_count as usize <= MAX_PROGRAM_HEADERS
         && (header.section_header_count == 0
             || header.section_header_size as usize == SECTION_HEADER)
 }

@@ -1,5 +1,9 @@
 // What an executable asks to be loaded.
+ghost use Rattle.std.specs.Prelude.{◌≡◌, ◌==◌, not, drop, take_while};
+ghost use Rattle.std.specs.List.{prefix_len};
+
 use std::marker::Model;
+use std::sync::Arc;
 
 /// A segment: `bytes` stand at address `start`, and zeros behind them up to `size` bytes.
 #[derive(Drop)]
@@ -22,13 +26,52 @@ impl Model for Segment {
     ghost view = { λ s. record { start = s.start; size = s.size; flags = s.flags; bytes = s.bytes.items } };
 }
 
+/// A name of a string table: its bytes up to its final zero byte. The names of an image share one
+/// copy of the table.
+#[derive(Drop)]
+pub struct Name {
+    table: Arc<Vec<u8>>,
+    // where the name begins in the table
+    at: u32,
+}
+
+impl Model for Name {
+    ghost use Rattle.std.specs.Prelude.{ℕ, List};
+    ghost use Rattle.std.specs.Arc.{arc_value};
+    ghost use Rattle.elf_load.specs.Image.{name_at};
+
+    ghost Value = { List ℕ };
+
+    ghost view = { λ n. name_at (arc_value n.table).items n.at };
+}
+
+impl Name {
+    ghost use Rattle.std.specs.Prelude.{◌≡◌};
+    ghost use Rattle.std.specs.Arc.{arc_value};
+    ghost use Rattle.elf_load.specs.Image.{name_at};
+
+    // The name that begins at byte `at` of a string table.
+    pub(crate) fn new(table: Arc<Vec<u8>>, at: u32) -> Name
+        ensures { result ≡ name_at (arc_value table).items at }
+    {
+        Name { table, at }
+    }
+
+    /// The bytes of the name, without its final zero byte. It looks for that, so it takes the time
+    /// of the name's length.
+    pub fn bytes(&self) -> &[u8]
+        ensures { result.now ≡ self.now }
+    {
+        up_to_zero(bytes_from(&self.table, self.at as usize))
+    }
+}
+
 /// A function of the symbol table.
 #[derive(Drop)]
 pub struct Function {
     /// The address of the first instruction.
     pub start: u32,
-    /// The name, without its final zero byte.
-    pub name: Vec<u8>,
+    pub name: Name,
 }
 
 impl Model for Function {
@@ -36,7 +79,7 @@ impl Model for Function {
 
     ghost Value = { FunctionFields };
 
-    ghost view = { λ f. record { start = f.start; name = f.name.items } };
+    ghost view = { λ f. record { start = f.start; name = f.name } };
 }
 
 /// What an executable asks to be loaded.
@@ -63,4 +106,25 @@ impl Model for Image {
     ghost view = { λ i. record { entry = i.entry; phdr = i.phdr; phnum = i.phnum; segments = i.segments.items; functions = i.functions.items } };
 
     ghost invariant = { λ i. IsImage (record { entry = i.entry; phdr = i.phdr; phnum = i.phnum; segments = i.segments.items; functions = i.functions.items }) };
+}
+
+// The bytes from place `at` on, none where that is past the end.
+fn bytes_from(bytes: &[u8], at: usize) -> &[u8]
+    ensures { result.now ≡ drop at bytes.now }
+{
+    if at < bytes.len() { &bytes[at..] } else { &[] }
+}
+
+// How many bytes stand before the first zero byte.
+fn name_length(bytes: &[u8]) -> usize
+    ensures { result ≡ prefix_len (λ byte. not (byte == 0)) bytes.now }
+{
+    bytes.iter().take_while(|byte| **byte != 0).count()
+}
+
+// The bytes before the first zero byte.
+fn up_to_zero(bytes: &[u8]) -> &[u8]
+    ensures { result.now ≡ take_while (λ byte. not (byte == 0)) bytes.now }
+{
+    &bytes[..name_length(bytes)]
 }

@@ -11,9 +11,7 @@ mod segment_checks;
 mod segments;
 mod symbol_checks;
 mod tables;
-#[cfg(test)]
-mod tests;
 
 pub use fault::ElfFault;
-pub use image::{Function, Image, Segment};
+pub use image::{Function, Image, Name, Segment};
 pub use loader::load;

@@ -2,6 +2,7 @@
 ghost use Rattle.std.specs.Prelude.{◌≡◌, ◌≤◌, ◌⊎◌, true, false, None, Some, length, IfOk, MatchResult};
 ghost use Rattle.elf_load.specs.Elf.{refusal_of, image_of};
 ghost use Rattle.elf_load.specs.Header.{file_header, program_headers};
+ghost use Rattle.elf_load.specs.Limits.{most_headers};
 ghost use Rattle.elf_load.specs.Symbols.{symbol_table, are_bad_symbols};
 ghost use Rattle.elf_load.specs.Tests.{first_fault, segment_tests, has_tables};
 ghost use Rattle.elf_load.specs.declared.fault.ElfFault.TheVariants.{NoMemory};
@@ -28,7 +29,7 @@ fn image(
     requires header { header.now ≡ file_header file.now }
     requires headers { headers.now ≡ program_headers file.now }
     requires table { table ≡ symbol_table file.now }
-    requires few { header.now.program_header_count ≤ 32 }
+    requires few { header.now.program_header_count ≤ most_headers }
     requires tables { has_tables header.now (length file.now) ≡ true }
     requires passed { None ≡ first_fault (segment_tests (length file.now) header.now.entry headers.now) }
     requires good { are_bad_symbols file.now ≡ false }
@@ -47,12 +48,13 @@ fn image(
 /// The image of a static executable for RISC-V in an ELF file of 32 bits.
 ///
 /// # Errors
-/// The first test of [`ElfFault`], in its order, that the file fails; `NoMemory` where there is no memory for
-/// the image.
+/// The first test of [`ElfFault`], in its order, that the file fails. The tests take no memory: `NoMemory`
+/// comes where the file passes them all and there is none for the image.
 pub fn load(alloc: Global, file: &[u8]) -> Result<Image, ElfFault>
     ensures { MatchResult result
         (λ image. (refusal_of file.now ≡ None) × (image ≡ image_of file.now))
-        (λ fault. (fault ≡ ElfFault.NoMemory) ⊎ (refusal_of file.now ≡ Some fault)) }
+        (λ fault. ((refusal_of file.now ≡ None) × (fault ≡ ElfFault.NoMemory))
+            ⊎ (refusal_of file.now ≡ Some fault)) }
 {
     if let Some(fault) = identification_fault(file) {
         return Err(fault);
@@ -61,13 +63,17 @@ pub fn load(alloc: Global, file: &[u8]) -> Result<Image, ElfFault>
     if let Some(fault) = header_fault(&header, file.len()) {
         return Err(fault);
     }
-    let headers = program_headers(alloc, file, &header)?;
-    if let Some(fault) = segment_fault(file.len(), header.entry, &headers) {
+    let headers = program_headers(file, &header);
+    let headers = headers.as_slice();
+    if let Some(fault) = segment_fault(file.len(), header.entry, headers) {
         return Err(fault);
     }
     let table = symbol_table(file, &header);
     if are_bad_symbols(file, &header, table) {
         return Err(ElfFault::BadSymbols);
     }
-    Ok(image(alloc, file, &header, &headers, table)?)
+    match image(alloc, file, &header, headers, table) {
+        Ok(image) => Ok(image),
+        Err(_) => Err(ElfFault::NoMemory),
+    }
 }

@@ -1,6 +1,7 @@
 // The tests of the program headers.
 ghost use Rattle.std.specs.Prelude.{◌≡◌, ◌&&◌, true, ◌≤◌, ◌<◌, ◌^◌, length, ◌+◌, IfSome};
 ghost use Rattle.std.specs.List.{list_any};
+ghost use Rattle.elf_load.specs.Limits.{most_headers};
 ghost use Rattle.elf_load.specs.Tests.{first_fault, segment_tests, is_dynamic, is_segment, can_execute, can_write, ends_past_file, is_malformed, have_page_in_common, shares_page, is_outside_user, first_segment, first_sharing, are_too_many_pages, holds, is_code, is_entry, first_page, last_page, page_count};
 
 use crate::fault::ElfFault;
@@ -12,6 +13,11 @@ const PAGE: u64 = 4096;
 const STACK_PAGES: u64 = 256;
 
 const MAX_PAGES: u64 = 16_384;
+
+// The addresses of the user's memory.
+const USER_START: u64 = 0x1000;
+
+const USER_END: u64 = 0x4000_0000;
 
 // Whether the program header asks for an interpreter or for dynamic linking: PT_INTERP or PT_DYNAMIC.
 fn is_dynamic(header: &ProgramHeader) -> bool
@@ -99,11 +105,12 @@ fn shares_page(others: &[ProgramHeader], header: &ProgramHeader) -> bool
     others.iter().any(|other| is_segment(other) && have_page_in_common(other, header))
 }
 
-// Whether the segment begins in the first page, or ends above 0x4000_0000.
+// Whether the segment begins before the user's memory, or ends behind it.
 fn is_outside_user(header: &ProgramHeader) -> bool
     ensures { result ≡ is_outside_user header.now }
 {
-    header.address < 0x1000 || header.address as u64 + header.memory_size as u64 > 0x4000_0000
+    (header.address as u64) < USER_START
+        || header.address as u64 + header.memory_size as u64 > USER_END
 }
 
 // The first segment whose bytes end past a file of `size` bytes.
@@ -172,7 +179,7 @@ fn page_count(header: &ProgramHeader) -> u64
 // Whether the pages of the segments and of the stack are more than may be mapped.
 #[tactic(auto, unfolding(crate::specs::Tests::are_too_many_pages))]
 fn are_too_many_pages(headers: &[ProgramHeader]) -> bool
-    requires { length headers.now ≤ 32 }
+    requires { length headers.now ≤ most_headers }
     ensures { result ≡ are_too_many_pages headers.now }
 {
     let mut pages = 0u64;
@@ -213,7 +220,7 @@ fn is_entry(entry: u32, headers: &[ProgramHeader]) -> bool
 
 /// The first fault of the program headers, at most 32, in a file of `size` bytes with this entry.
 pub fn segment_fault(size: usize, entry: u32, headers: &[ProgramHeader]) -> Option<ElfFault>
-    requires { length headers.now ≤ 32 }
+    requires { length headers.now ≤ most_headers }
     ensures { result ≡ first_fault (segment_tests size entry headers.now) }
 {
     if is_any_dynamic(headers) {

@@ -1,34 +1,35 @@
 // The program header table and the section header table.
-ghost use Rattle.std.specs.Prelude.{◌≡◌, ◌<◌, true, length, find, IfOk};
+ghost use Rattle.std.specs.Prelude.{◌≡◌, ◌<◌, true, length, find, ◌≤◌};
 ghost use Rattle.elf_load.specs.Header.{file_header, program_headers, section};
+ghost use Rattle.elf_load.specs.Limits.{most_headers};
 ghost use Rattle.elf_load.specs.Symbols.{symbol_table};
 ghost use Rattle.elf_load.specs.Tests.{has_tables};
 
 use crate::fields::{
     FileHeader, ProgramHeader, SectionHeader, program_header_at, section_header_at,
 };
-use crate::header_checks::{PROGRAM_HEADER, SECTION_HEADER};
-use std::alloc::{AllocError, Global};
+use crate::header_checks::{MAX_PROGRAM_HEADERS, PROGRAM_HEADER, SECTION_HEADER};
+use arrayvec::ArrayVec;
 
 // SHT_SYMTAB
 const SYMBOL_TABLE: u32 = 2;
 
 /// The program header table, which ends in the file.
 pub fn program_headers(
-    alloc: Global,
     file: &[u8],
     header: &FileHeader,
-) -> Result<Vec<ProgramHeader>, AllocError>
+) -> ArrayVec<ProgramHeader, MAX_PROGRAM_HEADERS>
     requires header { header.now ≡ file_header file.now }
     requires tables { has_tables header.now (length file.now) ≡ true }
-    ensures { IfOk result (λ headers. headers.items ≡ program_headers file.now) }
+    requires few { header.now.program_header_count ≤ most_headers }
+    ensures { result.items ≡ program_headers file.now }
 {
-    let mut headers = Vec::new(alloc);
+    let mut headers = ArrayVec::new();
     let at = header.program_headers_at as usize;
     for k in 0..header.program_header_count as usize {
-        headers.push(program_header_at(file, at + PROGRAM_HEADER * k))?;
+        headers.push(program_header_at(file, at + PROGRAM_HEADER * k));
     }
-    Ok(headers)
+    headers
 }
 
 /// The section header at index `k` of the table, which ends in the file.

@@ -13,6 +13,6 @@ unfolding table_functions
 returns c =
     let bytes = names c.args.file.now c.args.table.now in
     subst (λ (xs : List FunctionFields). IfOk c.named.result (λ functions. functions.items ≡ xs))
-    (ap (λ (b : List ℕ). map (function_named b) c.deref.result.now) c.names.ensures
+    (ap (λ (b : List ℕ). map (function_named b) c.deref.result.now) (c.in_ok-names.ensures ∙ c.names.ensures)
     ∙ ap (map (function_named bytes)) (c.deref.ensures.value ∙ (c.in_ok-entries-2.ensures ∙ c.in_ok-entries.ensures)))
     c.named.ensures
