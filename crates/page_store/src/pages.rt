@@ -35,15 +35,19 @@ impl Model for Pages {
 
 #[tactic(auto, using(crate::proofs::Rules::flat_rules))]
 impl Pages {
-    /// Each page reads as zeros, and `frames` frames are free. The memory that they need is taken here.
+    /// Each page reads as zeros, and `frames` frames are free. The memory that they need is taken here; there is none for
+    /// more frames than there are pages.
     pub fn empty(alloc: Global, frames: u32) -> Result<Pages, AllocError>
-        requires { frames ≤ 16384 }
         ensures bytes { IfOk result (λ p. p.flat_bytes ≡ flat (λ _. 0)) }
         ensures framed { IfOk result (λ p. p.framed ≡ unmarked (2 ^ 20)) }
         ensures touched { IfOk result (λ p. p.touched ≡ unmarked (2 ^ 20)) }
         ensures free { IfOk result (λ p. p.free ≡ frames) }
         ensures frames { IfOk result (λ p. p.frames ≡ frames) }
+        ensures adds_up { IfOk result (λ p. count_marked p.framed + p.free ≡ p.frames) }
     {
+        if frames as usize > PAGES {
+            return Err(AllocError);
+        }
         Ok(Pages {
             places: Places::new(alloc, PAGES, frames as usize)?,
             framed: no_marks(alloc, PAGES)?,
@@ -84,6 +88,7 @@ impl Pages {
         ensures touched { self.new.touched ≡ slice_set self.old.touched (at / 4096) true }
         ensures free { self.new.free ≡ self.old.free - (if is_marked self.old.framed at then 0 else 1) }
         ensures frames { self.new.frames ≡ self.old.frames }
+        ensures adds_up { count_marked self.new.framed + self.new.free ≡ self.new.frames }
     {
         self.claim(at / 4096);
         self.places.write(at, bytes);
@@ -99,6 +104,7 @@ impl Pages {
         ensures touched { self.new.touched ≡ slice_set self.old.touched page true }
         ensures free { self.new.free ≡ self.old.free - (if is_marked self.old.framed (4096 * page) then 0 else 1) }
         ensures frames { self.new.frames ≡ self.old.frames }
+        ensures adds_up { count_marked self.new.framed + self.new.free ≡ self.new.frames }
     {
         if self.framed[page as usize] {
             return;
@@ -138,6 +144,7 @@ impl Pages {
         ensures touched { self.new.touched ≡ self.old.touched }
         ensures free { self.new.free ≡ self.old.free + (if is_marked self.old.framed (4096 * page) then 1 else 0) }
         ensures frames { self.new.frames ≡ self.old.frames }
+        ensures adds_up { count_marked self.new.framed + self.new.free ≡ self.new.frames }
     {
         self.places.take_back(page);
         if self.framed[page as usize] {

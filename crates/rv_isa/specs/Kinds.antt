@@ -24,16 +24,16 @@ loaded_of Lh n = modulo (signed 16 n)
 loaded_of _ n = n
 
 -- how many bytes an instruction loads or stores
-abbrev pub size_of : Op → ℕ
-size_of Lb = 1
-size_of Lbu = 1
-size_of Sb = 1
-size_of Lh = 2
-size_of Lhu = 2
-size_of Sh = 2
-size_of Lw = 4
-size_of Sw = 4
-size_of _ = 0
+abbrev pub mem_size : Op → ℕ
+mem_size Lb = 1
+mem_size Lbu = 1
+mem_size Sb = 1
+mem_size Lh = 2
+mem_size Lhu = 2
+mem_size Sh = 2
+mem_size Lw = 4
+mem_size Sw = 4
+mem_size _ = 0
 
 -- the instructions that end a block: branches, jumps, ecall and ebreak
 abbrev pub ends_block : Op → Bool

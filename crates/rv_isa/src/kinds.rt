@@ -1,6 +1,6 @@
 // Branches, loads, stores, block ends, and the kinds of jumps.
 ghost use Rattle.std.specs.Prelude.{◌≡◌, ◌*◌, ◌^◌, ◌<◌};
-ghost use Rattle.rv_isa.specs.Kinds.{is_taken, loaded_of, size_of, ends_block, link_of};
+ghost use Rattle.rv_isa.specs.Kinds.{is_taken, loaded_of, mem_size, ends_block, link_of};
 
 use crate::instr::Instr;
 use crate::op::Op;
@@ -32,7 +32,7 @@ pub fn is_taken(op: Op, a: u32, b: u32) -> bool
 /// What a load puts into its register, from the little-endian number of the bytes that it read.
 #[inline(always)]
 pub fn loaded(op: Op, value: u32) -> u32
-    requires { value < 2 ^ (8 * size_of op) }
+    requires { value < 2 ^ (8 * mem_size op) }
     ensures { result ≡ loaded_of op value }
 {
     match op {
@@ -45,7 +45,7 @@ pub fn loaded(op: Op, value: u32) -> u32
 /// How many bytes an instruction loads or stores: 1, 2 or 4, or 0 where it does neither.
 #[inline(always)]
 pub fn mem_size(i: &Instr) -> u8
-    ensures { result ≡ size_of i.now.op }
+    ensures { result ≡ mem_size i.now.op }
 {
     match i.op {
         Op::Lb | Op::Lbu | Op::Sb => 1,

@@ -41,3 +41,10 @@ returns-then-index-clause-bytes c = flat-cleared _ _ c.args.self.now.flat_bytes 
 
 pub returns-else-index-clause-bytes : goal.returns-else-index-clause-bytes
 returns-else-index-clause-bytes c = flat-cleared _ _ c.args.self.now.flat_bytes c.args.page (ap (λ v. v.flat_bytes) c.self.view_is) c.take_back.ensures.bytes
+
+pub returns-then-index-clause-adds_up : goal.returns-then-index-clause-adds_up
+returns-then-index-clause-adds_up c =
+    let framed = c.self.inside.framed.items in
+    let some : get_or c.self.inside.framed.items c.args.page false ≡ true = grind (arith, elements) in
+    let in_framed : c.args.page < length c.self.inside.framed.items = omega arith in
+    omega (arith, count_marked-clear framed c.args.page in_framed some, c.self.invariant.adds_up)
