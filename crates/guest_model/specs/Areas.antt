@@ -1,6 +1,7 @@
 -- Which addresses the areas of a guest's memory hold, and what may be done there.
-use Rattle.std.specs.Prelude.{ℕ, ◌+◌, ◌*◌, ◌/◌, ◌%◌, ◌^◌, Bool, ◌&&◌, List, nat_lt, nat_le}
+use Rattle.std.specs.Prelude.{ℕ, ◌+◌, ◌-◌, ◌*◌, ◌/◌, ◌%◌, ◌^◌, Bool, ◌&&◌, List, nat_lt, nat_le}
 use Rattle.std.specs.List.{list_any, list_all, range_with_len}
+use Rattle.guest_model.specs.declared.platform.TheConstants.{PAGE_SIZE}
 use Rattle.guest_model.specs.declared.Area.{Area}
 use Rattle.guest_model.specs.declared.Access.{Access}
 use Rattle.guest_model.specs.declared.Access.TheVariants.{Read, Write, Execute}
@@ -9,12 +10,12 @@ use Rattle.guest_model.specs.declared.Access.TheVariants.{Read, Write, Execute}
 abbrev pub wrap : ℕ → ℕ
 wrap a = a % 2 ^ 32
 
--- an address rounded down, and rounded up, to whole pages of 4,096 bytes
+-- an address rounded down, and rounded up, to whole pages
 abbrev pub rounded_down : ℕ → ℕ
-rounded_down a = a / 4096 * 4096
+rounded_down a = a / PAGE_SIZE * PAGE_SIZE
 
 abbrev pub rounded_up : ℕ → ℕ
-rounded_up a = (a + 4095) / 4096 * 4096
+rounded_up a = (a + (PAGE_SIZE - 1)) / PAGE_SIZE * PAGE_SIZE
 
 -- whether the area holds the address
 abbrev pub holds : Area → ℕ → Bool

@@ -1,20 +1,21 @@
 -- What one instruction does to a machine (RISC-V unprivileged manual, "RV32I Base Integer Instruction Set" and the M extension).
-use Rattle.std.specs.Prelude.{ℕ, ◌+◌, ◌*◌, ◌/◌, ◌%◌, ◌==◌, Option, Some, None, if◌then◌else◌}
+use Rattle.std.specs.Prelude.{ℕ, ◌+◌, ◌*◌, ◌/◌, ◌%◌, ◌==◌, List, [], ◌∷◌, Option, Some, None, if◌then◌else◌}
 use Rattle.rv_isa.specs.Word.{unsigned_of}
 use Rattle.rv_isa.specs.Table.{Fields}
 use Rattle.rv_isa.specs.Decoded.{decoded}
 use Rattle.rv_isa.specs.Arithmetic.{alu_of}
-use Rattle.rv_isa.specs.Kinds.{is_taken, loaded_of, size_of, ends_block}
+use Rattle.rv_isa.specs.Kinds.{is_taken, loaded_of, mem_size, ends_block}
 use Rattle.rv_isa.specs.declared.op.Op.{Op}
 use Rattle.rv_isa.specs.declared.op.Op.TheVariants.{Lui, Auipc, Jal, Jalr, Beq, Bne, Blt, Bge, Bltu, Bgeu, Lb, Lh, Lw, Lbu, Lhu, Sb, Sh, Sw, Addi, Slti, Sltiu, Xori, Ori, Andi, Slli, Srli, Srai, Add, Sub, Sll, Slt, Sltu, Xor, Srl, Sra, Or, And, Fence, Ecall, Ebreak, Mul, Mulh, Mulhsu, Mulhu, Div, Divu, Rem, Remu}
 use Rattle.guest_model.specs.Areas.{wrap}
+use Rattle.guest_model.specs.Range.{Range, range}
 use Rattle.guest_model.specs.Space.{Space, read_number, write_number}
 use Rattle.guest_model.specs.Machine.{Machine, register, put, following}
 use Rattle.guest_model.specs.declared.Access.TheVariants.{Read, Execute}
 
 pub data Effect : Type 0 where
-  -- the instruction completed
-  Next : (next : Machine) → Effect
+  -- the instruction completed, and stored in these ranges
+  Next : (next : Machine) (stored : List Range) → Effect
   -- it asks for a call; the machine stays
   Call : Effect
   -- it faults; the machine stays
@@ -55,20 +56,28 @@ abbrev pub even : ℕ → ℕ
 even a = 2 * (a / 2)
 
 -- the machine at another pc, after this instruction
-abbrev pub moved : Machine → Fields → ℕ → Machine
-moved m i next = record m { pc = next; fresh = ends_block i.op }
+abbrev pub machine_at : Machine → Fields → ℕ → Machine
+machine_at m i next = record m { pc = next; fresh = ends_block i.op }
 
 -- the same with a value in rd
-abbrev pub written : Machine → Fields → ℕ → ℕ → Machine
-written m i value next = record m { pc = next; registers = put i.rd value m.registers; fresh = ends_block i.op }
+abbrev pub machine_with : Machine → Fields → ℕ → ℕ → Machine
+machine_with m i value next = record m { pc = next; registers = put i.rd value m.registers; fresh = ends_block i.op }
+
+-- the instruction completed, and stored nothing
+abbrev pub goes_on : Machine → Effect
+goes_on next = Next next []
+
+-- nothing but pc changes
+abbrev pub passes : Machine → Fields → Effect
+passes m i = goes_on (machine_at m i (following m))
 
 -- rd gets a value
 abbrev pub writes : Machine → Fields → ℕ → Effect
-writes m i value = Next (written m i value (following m))
+writes m i value = goes_on (machine_with m i value (following m))
 
 -- the arithmetic and logic instructions, from rs1 and a second operand
 abbrev pub writes_some : Machine → Fields → Option ℕ → Effect
-writes_some m i None = Next (moved m i (following m))
+writes_some m i None = passes m i
 writes_some m i (Some value) = writes m i value
 
 abbrev pub computes : Machine → Fields → ℕ → Effect
@@ -76,14 +85,14 @@ computes m i operand = writes_some m i (alu_of i.op (rs1_value m i) operand)
 
 -- pc gets the target, which must be a multiple of 4 ("Base Instruction Formats"), and rd the address behind the jump
 abbrev pub jumps : Machine → Fields → ℕ → Effect
-jumps m i to = if to % 4 == 0 then Next (written m i (following m) to) else Fault misaligned
+jumps m i to = if to % 4 == 0 then goes_on (machine_with m i (following m) to) else Fault misaligned
 
 -- the target counts only where the branch is taken
 abbrev pub branches : Machine → Fields → Effect
 branches m i =
     if is_taken i.op (rs1_value m i) (rs2_value m i)
-    then (if target m i % 4 == 0 then Next (moved m i (target m i)) else Fault misaligned)
-    else Next (moved m i (following m))
+    then (if target m i % 4 == 0 then goes_on (machine_at m i (target m i)) else Fault misaligned)
+    else passes m i
 
 -- rd gets what was read
 abbrev pub loads_some : Machine → Fields → Option ℕ → Effect
@@ -91,22 +100,16 @@ loads_some m i None = Fault access
 loads_some m i (Some n) = writes m i (loaded_of i.op n)
 
 abbrev pub loads : Machine → Fields → Effect
-loads m i = loads_some m i (read_number Read m.space (address m i) (size_of i.op))
+loads m i = loads_some m i (read_number Read m.space (address m i) (mem_size i.op))
 
 -- the low bytes of rs2 go to memory
 abbrev pub stores_some : Machine → Fields → Option Space → Effect
 stores_some m i None = Fault access
-stores_some m i (Some s) = Next (record m { pc = following m; space = s; fresh = ends_block i.op })
+stores_some m i (Some s) =
+    Next (record m { pc = following m; space = s; fresh = ends_block i.op }) (range (address m i) (mem_size i.op) ∷ [])
 
 abbrev pub stores : Machine → Fields → Effect
-stores m i = stores_some m i (write_number m.space (address m i) (size_of i.op) (rs2_value m i))
-
--- how many bytes from its address on an instruction stores: none where it is no store
-abbrev pub stored_size : Op → ℕ
-stored_size Sb = 1
-stored_size Sh = 2
-stored_size Sw = 4
-stored_size _ = 0
+stores m i = stores_some m i (write_number m.space (address m i) (mem_size i.op) (rs2_value m i))
 
 -- one row for each instruction
 abbrev pub effect_by : Op → Machine → Fields → Effect
@@ -147,7 +150,7 @@ effect_by Srl m i = computes m i (rs2_value m i)
 effect_by Sra m i = computes m i (rs2_value m i)
 effect_by Or m i = computes m i (rs2_value m i)
 effect_by And m i = computes m i (rs2_value m i)
-effect_by Fence m i = Next (moved m i (following m))
+effect_by Fence m i = passes m i
 effect_by Ecall m i = Call
 effect_by Ebreak m i = Fault breakpoint
 effect_by Mul m i = computes m i (rs2_value m i)
@@ -172,3 +175,9 @@ effect_of_word m (Some word) = effect_of_instruction m (decoded word)
 -- the effect of the instruction at pc
 unfoldable pub effect_of : Machine → Effect
 effect_of m = effect_of_word m (read_number Execute m.space m.pc 4)
+
+-- the ranges that an instruction stored in
+abbrev pub stored_by : Effect → List Range
+stored_by (Next next stored) = stored
+stored_by Call = []
+stored_by (Fault kind) = []

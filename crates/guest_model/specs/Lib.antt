@@ -1,11 +1,15 @@
 pub mod Areas
 pub mod Bytes
+pub mod Range
 pub mod Space
 pub mod Added
 pub mod Machine
 pub mod Errors
 pub mod Maps
 pub mod Effect
+pub mod Calls
 pub mod Call
+pub mod Valid
+pub mod Written
 pub mod Runs
 pub mod Serial

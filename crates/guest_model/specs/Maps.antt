@@ -2,11 +2,12 @@
 use Rattle.std.specs.Prelude.{ℕ, ◌+◌, ◌-◌, ◌/◌, ◌%◌, ◌==◌, Bool, not, ◌&&◌, ◌||◌, false, List, [], ◌∷◌, ◌++◌, length, nat_lt, nat_le, bit_and, replicate, if◌then◌else◌}
 use Rattle.std.specs.List.{list_any, flat_map}
 use Rattle.std.specs.FinMap as flat
-use Rattle.guest_model.specs.Added.{page_count, with_area}
+use Rattle.guest_model.specs.Added.{mapped_pages, with_area}
 use Rattle.guest_model.specs.Areas.{rounded_up}
 use Rattle.guest_model.specs.Bytes.{put_bytes}
-use Rattle.guest_model.specs.Errors.{no_room, bad_argument}
+use Rattle.guest_model.specs.Errors.{failure}
 use Rattle.guest_model.specs.Space.{Space}
+use Rattle.guest_model.specs.declared.platform.TheConstants.{EINVAL, ENOMEM, MAPS_END, MAPS_START, MOST_AREAS, MOST_PAGES, PAGE_SIZE}
 use Rattle.guest_model.specs.declared.Area.{Area}
 
 -- a call's result, and the space after it
@@ -17,22 +18,9 @@ pub record Changed : Type 0 where
 abbrev pub unchanged : Space → ℕ → Changed
 unchanged s answer = record { answer = answer; space = s }
 
--- maps stand from the first of these addresses on, below the second
-abbrev pub maps_start : ℕ
-maps_start = 0x40000000
-
-abbrev pub maps_end : ℕ
-maps_end = 0x7FE00000
-
--- how many pages, and how many areas, may stand at once
-abbrev pub most_pages : ℕ
-most_pages = 16384
-
-abbrev pub most_areas : ℕ
-most_areas = 64
-
+-- whether the area ends at or below where maps start
 abbrev pub ends_low : Area → Bool
-ends_low x = nat_le x.end maps_start
+ends_low x = nat_le x.end MAPS_START
 
 -- the areas with the heap ended elsewhere: it is the last that ends at or below where maps start
 abbrev pub heap_ended : ℕ → List Area → List Area
@@ -50,7 +38,7 @@ grown s to = record s { bytes = put_bytes s.bytes (rounded_up s.heap_break) (rep
 -- brk: the break moves up where there is room, and is the result
 unfoldable pub grow_of : Space → ℕ → Changed
 grow_of s to =
-    if nat_le s.heap_break to && nat_le to maps_start && nat_le (page_count s.areas + growth s to / 4096) most_pages
+    if nat_le s.heap_break to && nat_le to MAPS_START && nat_le (mapped_pages s.areas + growth s to / PAGE_SIZE) MOST_PAGES
     then record { answer = to; space = grown s to }
     else unchanged s s.heap_break
 
@@ -69,10 +57,10 @@ is_fresh_map flags = bit_and flags 0x33 == 0x22
 -- mmap2: the result is where the new map starts (PROT_EXEC is 4)
 unfoldable pub map_of : Space → ℕ → ℕ → ℕ → Changed
 map_of s len prot flags =
-    if len == 0 || not (is_fresh_map flags) || not (bit_and prot 4 == 0) then unchanged s bad_argument
-    else if nat_lt maps_end (s.next_map + rounded_up len) then unchanged s no_room
-    else if nat_lt most_pages (page_count s.areas + rounded_up len / 4096) then unchanged s no_room
-    else if nat_le most_areas (length s.areas) then unchanged s no_room
+    if len == 0 || not (is_fresh_map flags) || not (bit_and prot 4 == 0) then unchanged s (failure EINVAL)
+    else if nat_lt MAPS_END (s.next_map + rounded_up len) then unchanged s (failure ENOMEM)
+    else if nat_lt MOST_PAGES (mapped_pages s.areas + rounded_up len / PAGE_SIZE) then unchanged s (failure ENOMEM)
+    else if nat_le MOST_AREAS (length s.areas) then unchanged s (failure ENOMEM)
     else record { answer = s.next_map; space = mapped s (rounded_up len) prot }
 
 abbrev pub is_in_range : ℕ → ℕ → ℕ → Bool
@@ -99,7 +87,7 @@ without_range s from to = record s { bytes = flat.retain_keys s.bytes (λ a. not
 -- munmap: a hole in the range is no fault, and no address of it is handed out again
 unfoldable pub unmap_of : Space → ℕ → ℕ → Changed
 unmap_of s at len =
-    if not (at % 4096 == 0) || len == 0 then unchanged s bad_argument
-    else if nat_lt at maps_start || nat_lt maps_end (at + rounded_up len) then unchanged s bad_argument
-    else if nat_lt most_areas (length (cut_areas at (at + rounded_up len) s.areas)) then unchanged s no_room
+    if not (at % PAGE_SIZE == 0) || len == 0 then unchanged s (failure EINVAL)
+    else if nat_lt at MAPS_START || nat_lt MAPS_END (at + rounded_up len) then unchanged s (failure EINVAL)
+    else if nat_lt MOST_AREAS (length (cut_areas at (at + rounded_up len) s.areas)) then unchanged s (failure ENOMEM)
     else record { answer = 0; space = without_range s at (at + rounded_up len) }

@@ -2,26 +2,26 @@
 use Rattle.std.specs.Prelude.{ℕ, zero, suc, List, [], ◌++◌}
 
 -- where a run stands: at a state from which it goes on, or ended at its last state
-pub data Stand (S E : Type 0) : Type 0 where
-  Goes : (state : S) → Stand S E
-  Over : (last : S) (end : E) → Stand S E
+pub data RunState (S E : Type 0) : Type 0 where
+  Running : (state : S) → RunState S E
+  Ended : (last : S) (end : E) → RunState S E
 
 -- one step more: a run that ended stays as it is
-abbrev pub advance : {S E : Type 0} → (S → Stand S E) → Stand S E → Stand S E
-advance step (Goes s) = step s
-advance step (Over s e) = Over s e
+abbrev pub advance : {S E : Type 0} → (S → RunState S E) → RunState S E → RunState S E
+advance step (Running s) = step s
+advance step (Ended s e) = Ended s e
 
 -- where a run stands after n steps were tried, or at its end where that came earlier
-unfoldable pub after : {S E : Type 0} → (S → Stand S E) → ℕ → Stand S E → Stand S E
+unfoldable pub after : {S E : Type 0} → (S → RunState S E) → ℕ → RunState S E → RunState S E
 after step zero x = x
 after step (suc n) x = advance step (after step n x)
 
 -- what f says of the state from which a run goes on
-abbrev pub here : {S E A : Type 0} → (S → List A) → Stand S E → List A
-here f (Goes s) = f s
-here f (Over s e) = []
+abbrev pub here : {S E A : Type 0} → (S → List A) → RunState S E → List A
+here f (Running s) = f s
+here f (Ended s e) = []
 
 -- what f says of each step that was tried, in order: f speaks of the state before the step
-unfoldable pub along : {S E A : Type 0} → (S → Stand S E) → (S → List A) → ℕ → Stand S E → List A
+unfoldable pub along : {S E A : Type 0} → (S → RunState S E) → (S → List A) → ℕ → RunState S E → List A
 along step f zero x = []
 along step f (suc n) x = along step f n x ++ here f (after step n x)

@@ -1,9 +1,30 @@
 //! Laws of the definitions. None of these functions does anything: each carries a law.
-ghost use Rattle.std.specs.Prelude.{◌≡◌, ℕ, ◌+◌};
-ghost use Rattle.guest_model.specs.Runs.{Goes, Over, after};
-ghost use Rattle.guest_model.specs.Serial.{Place, End, run_of, step_of};
+ghost use Rattle.std.specs.Prelude.{◌≡◌, ℕ, ◌+◌, ◌≤◌, List, Some, length};
+ghost use Rattle.call_record.specs.Record.{CallRecord};
+ghost use Rattle.guest_model.specs.Call.{World, Sent, Went, call_of, machine_after};
+ghost use Rattle.guest_model.specs.Calls.{Deed, deed_of, used_ranges};
+ghost use Rattle.guest_model.specs.Machine.{Machine};
+ghost use Rattle.guest_model.specs.Range.{Range, total_size};
+ghost use Rattle.guest_model.specs.Runs.{Running, Ended, after};
+ghost use Rattle.guest_model.specs.Serial.{Position, End, run_of, step_of};
+
+use crate::platform::{MOST_READ, MOST_USED};
 
 /// A run that ended stays as it ended.
 pub fn ended_stays()
-    ensures { (p last : Place) (end : End) (n k : ℕ) → run_of n p ≡ Over last end → run_of (n + k) p ≡ Over last end }
+    ensures { (p last : Position) (end : End) (n k : ℕ) → run_of n p ≡ Ended last end
+        → run_of (n + k) p ≡ Ended last end }
+{}
+
+/// The machine behind a call is the one that its record and its deed give, whatever the world was.
+pub fn record_gives_next()
+    ensures { (m next : Machine) (w later : World) (deed : Deed) (entry : CallRecord) (sent : List Sent)
+        → deed_of m ≡ Some deed → call_of m w ≡ Went next later entry sent
+        → next ≡ machine_after m deed entry }
+{}
+
+/// readv uses at most 8 ranges, with at most 65,536 bytes in all.
+pub fn used_ranges_are_few()
+    ensures count { (ranges : List Range) → length (used_ranges ranges) ≤ MOST_USED }
+    ensures size { (ranges : List Range) → total_size (used_ranges ranges) ≤ MOST_READ }
 {}

@@ -3,9 +3,13 @@
 #![tactic(auto)]
 
 pub mod laws;
+pub mod platform;
+mod system_call;
+
+pub use system_call::SystemCall;
 
 /// A range of whole pages, from `start` to below `end`, and what a guest may do there.
-#[derive(Clone, Copy, PartialEq, Eq, Debug, Default)]
+#[derive(Clone, Copy, PartialEq, Eq, Default)]
 pub struct Area {
     /// The first address, a multiple of 4,096.
     pub start: u32,
@@ -17,7 +21,7 @@ pub struct Area {
 }
 
 /// What an access needs.
-#[derive(Clone, Copy, PartialEq, Eq, Debug)]
+#[derive(Clone, Copy, PartialEq, Eq)]
 pub enum Access {
     Read,
     Write,

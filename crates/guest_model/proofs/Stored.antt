@@ -1,0 +1,103 @@
+-- An instruction stores nothing, or at most four bytes.
+use Rattle.std.proofs.Common.{◌≡◌, ℕ, ◌%◌, ◌==◌, ◌≤◌, ◌⊎◌, Bool, true, false, cond, List, [], ◌∷◌, refl, subst, sym, ap, ◌∙◌, inl, inr, arith}
+use Rattle.std.specs.Prelude.{Option, Some, None}
+use Rattle.rv_isa.specs.Arithmetic.{alu_of}
+use Rattle.rv_isa.specs.Decoded.{decoded}
+use Rattle.rv_isa.specs.Kinds.{is_taken, mem_size}
+use Rattle.rv_isa.specs.Table.{Fields}
+use Rattle.rv_isa.specs.declared.op.Op.{Op}
+use Rattle.rv_isa.specs.declared.op.Op.TheVariants.{Lui, Auipc, Jal, Jalr, Beq, Bne, Blt, Bge, Bltu, Bgeu, Lb, Lbu, Lh, Lhu, Lw, Sb, Sh, Sw, Fence, Ecall, Ebreak}
+use Rattle.guest_model.specs.Effect.{Effect, Next, Call, Fault, rs1_value, rs2_value, address, target, goes_on, passes, writes_some, computes, jumps, branches, loads, loads_some, stores, stores_some, machine_at, machine_with, misaligned, effect_by, effect_of, effect_of_instruction, effect_of_word}
+use Rattle.guest_model.specs.Machine.{Machine, following}
+use Rattle.guest_model.specs.Range.{Range, range}
+use Rattle.guest_model.specs.Space.{Space, read_number, write_number}
+use Rattle.guest_model.specs.declared.Access.TheVariants.{Read, Execute}
+
+-- nothing, or one range of at most four bytes
+abbrev pub IsSmall : List Range → Type 0
+IsSmall stored = (stored ≡ []) ⊎ ((r : Range) × (r.size ≤ 4) × (stored ≡ r ∷ []))
+
+abbrev StoresLittle : Effect → Type 0
+StoresLittle (Next next stored) = IsSmall stored
+StoresLittle Call = Unit {0}
+StoresLittle (Fault kind) = Unit {0}
+
+little_size : (op : Op) → mem_size op ≤ 4
+little_size Lb = omega arith
+little_size Lbu = omega arith
+little_size Sb = omega arith
+little_size Lh = omega arith
+little_size Lhu = omega arith
+little_size Sh = omega arith
+little_size Lw = omega arith
+little_size Sw = omega arith
+little_size _ = omega arith
+
+computed : (m : Machine) (i : Fields) (o : Option ℕ) → StoresLittle (writes_some m i o)
+computed m i None = inl refl
+computed m i (Some value) = inl refl
+
+jumped : (m : Machine) (i : Fields) (to : ℕ) (b : Bool) → StoresLittle (cond b (goes_on (machine_with m i (following m) to)) (Fault misaligned))
+jumped m i to true = inl refl
+jumped m i to false = tt
+
+branched : (m : Machine) (i : Fields) (b c : Bool) → StoresLittle (cond b (cond c (goes_on (machine_at m i (target m i))) (Fault misaligned)) (passes m i))
+branched m i true true = inl refl
+branched m i true false = tt
+branched m i false c = inl refl
+
+loaded : (m : Machine) (i : Fields) (o : Option ℕ) → StoresLittle (loads_some m i o)
+loaded m i None = tt
+loaded m i (Some n) = inl refl
+
+stored : (m : Machine) (i : Fields) (o : Option Space) → StoresLittle (stores_some m i o)
+stored m i None = tt
+stored m i (Some s) = inr (range (address m i) (mem_size i.op), little_size i.op, refl)
+
+by_branch : (m : Machine) (i : Fields) → StoresLittle (branches m i)
+by_branch m i = branched m i (is_taken i.op (rs1_value m i) (rs2_value m i)) (target m i % 4 == 0)
+
+by_load : (m : Machine) (i : Fields) → StoresLittle (loads m i)
+by_load m i = loaded m i (read_number Read m.space (address m i) (mem_size i.op))
+
+by_store : (m : Machine) (i : Fields) → StoresLittle (stores m i)
+by_store m i = stored m i (write_number m.space (address m i) (mem_size i.op) (rs2_value m i))
+
+by_row : (op : Op) (m : Machine) (i : Fields) → StoresLittle (effect_by op m i)
+by_row Lui m i = inl refl
+by_row Auipc m i = inl refl
+by_row Jal m i = jumped m i _ _
+by_row Jalr m i = jumped m i _ _
+by_row Beq m i = by_branch m i
+by_row Bne m i = by_branch m i
+by_row Blt m i = by_branch m i
+by_row Bge m i = by_branch m i
+by_row Bltu m i = by_branch m i
+by_row Bgeu m i = by_branch m i
+by_row Lb m i = by_load m i
+by_row Lh m i = by_load m i
+by_row Lw m i = by_load m i
+by_row Lbu m i = by_load m i
+by_row Lhu m i = by_load m i
+by_row Sb m i = by_store m i
+by_row Sh m i = by_store m i
+by_row Sw m i = by_store m i
+by_row Fence m i = inl refl
+by_row Ecall m i = tt
+by_row Ebreak m i = tt
+by_row _ m i = computed m i _
+
+by_instruction : (m : Machine) (i : Option Fields) → StoresLittle (effect_of_instruction m i)
+by_instruction m None = tt
+by_instruction m (Some i) = by_row i.op m i
+
+by_word : (m : Machine) (word : Option ℕ) → StoresLittle (effect_of_word m word)
+by_word m None = tt
+by_word m (Some word) = by_instruction m (decoded word)
+
+by_effect : (m : Machine) → StoresLittle (effect_of m)
+unfolding effect_of
+by_effect m = by_word m (read_number Execute m.space m.pc 4)
+
+pub stored_is_small : (m next : Machine) (stored : List Range) → effect_of m ≡ Next next stored → IsSmall stored
+stored_is_small m next ranges is = subst StoresLittle is (by_effect m)
