@@ -12,14 +12,15 @@ use Rattle.std.proofs.lemmas.List.Folds.{list_any-append}
 use Rattle.guest_model.specs.Areas.{is_mapped, holds, permits, is_permitted, rounded_up}
 use Rattle.guest_model.specs.Bytes.{Bytes, put_bytes}
 use Rattle.guest_model.specs.Space.{Space}
-use Rattle.guest_model.specs.Added.{comes_before, insert_area, with_area, size_of, page_count}
-use Rattle.guest_model.specs.Maps.{maps_start, most_pages}
+use Rattle.guest_model.specs.Added.{comes_before, insert_area, with_area, mapped_pages, area_size}
+use Rattle.guest_model.specs.declared.platform.TheConstants.{MAPS_START, MOST_PAGES}
 use Rattle.guest_model.specs.declared.Area.{Area}
 use Rattle.guest_model.specs.declared.Access.{Access}
-use Rattle.page_store.specs.Contents.{Contents, is_among}
+use Rattle.page_store.specs.Contents.{Contents, is_among, count_marked}
 use Rattle.guest_mem.specs.Mapped.{of_areas, space_over}
 use Rattle.guest_mem.specs.Memory.{IsApart}
-use Rattle.guest_mem.specs.Sound.{IsSound, IsWhole, IsOnOneSide, IsMapStart, HasRights, heap_ends, is_unused, allows, no_rights}
+use Rattle.guest_mem.specs.Sound.{IsSound, IsOnOneSide, HasRights, heap_ends, is_unused, allows, no_rights}
+use Rattle.guest_model.specs.Valid.{IsWhole, IsMapStart}
 use Rattle.guest_mem.specs.declared.rights.Rights.{Rights}
 use Rattle.guest_mem.proofs.Mapped.{get-of_areas, get-put_bytes, same_bytes}
 use Rattle.guest_mem.proofs.Permitted.{mapped_if_permitted}
@@ -54,9 +55,9 @@ all_cons P x xs head tail (suc k) d lt = tail k d (omega arith)
 pub all_insert : (P : Area → Type 0) (xs : List Area) (i : ℕ) (x : Area) → P x → All P xs → All P (insert xs i x)
 all_insert P xs i x head whole = All-append P (take i xs) (x ∷ drop i xs) (All-take P i xs whole) (all_cons P x (drop i xs) head (All-drop P i xs whole))
 
-pub pages_insert : (xs : List Area) (i : ℕ) (x : Area) → page_count (insert xs i x) ≡ page_count xs + size_of x / 4096
-unfolding page_count
-pages_insert xs i x = sum_by-insert (λ y. size_of y / 4096) xs i x
+pub pages_insert : (xs : List Area) (i : ℕ) (x : Area) → mapped_pages (insert xs i x) ≡ mapped_pages xs + area_size x / 4096
+unfolding mapped_pages
+pages_insert xs i x = sum_by-insert (λ y. area_size y / 4096) xs i x
 
 -- the areas ys are the areas xs with the addresses of x besides
 pub record IsAdded (x : Area) (xs ys : List Area) (heap_break next_map new_break new_next : ℕ) : Type 0 where
@@ -65,9 +66,9 @@ pub record IsAdded (x : Area) (xs ys : List Area) (heap_break next_map new_break
   pub mapped : (a : ℕ) → is_mapped ys a ≡ (holds x a || is_mapped xs a)
   pub permitted : (access : Access) (a : ℕ) → is_permitted access ys a ≡ ((permits access x && holds x a) || is_permitted access xs a)
   pub all_whole : All IsWhole ys
-  pub few_pages : page_count ys ≤ most_pages
+  pub few_pages : mapped_pages ys ≤ MOST_PAGES
   pub sides : All IsOnOneSide ys
-  pub heap_bound : new_break ≤ maps_start
+  pub heap_bound : new_break ≤ MAPS_START
   pub heap : heap_ends (rounded_up new_break) ys ≡ true
   pub next : IsMapStart new_next
   pub unused : (a : ℕ) → is_unused new_break new_next a ≡ true → (is_unused heap_break next_map a ≡ true) × (holds x a ≡ false)
@@ -150,13 +151,14 @@ pub sound_added : (x : Area) (xs ys : List Area) (rights new_rights : List Right
     → IsSound xs rights old brk next → IsAdded x xs ys brk next new_brk new_next → IsWithin x at (length given)
     → ((page : ℕ) → holds x (4096 * page) ≡ true → get_or old.touched page false ≡ false)
     → ((q : ℕ) → get_or new.flat_bytes q 0 ≡ cond (is_among at (length given) q) (get_or given (q - at) 0) (get_or old.flat_bytes q 0))
-    → length new.flat_bytes ≡ 2 ^ 32 → new.framed ≡ old.framed → new.touched ≡ old.touched
+    → length new.flat_bytes ≡ 2 ^ 32 → new.framed ≡ old.framed → new.touched ≡ old.touched → new.free ≡ old.free → new.frames ≡ old.frames
     → ((access : Access) → allows access r ≡ permits access x)
     → length new_rights ≡ length rights
     → ((page : ℕ) → get_or new_rights page no_rights ≡ cond (is_page_in x page) r (get_or rights page no_rights))
     → IsSound ys new_rights new new_brk new_next
-sound_added x xs ys rights new_rights old new brk next new_brk new_next at given r sound added inside untouched bytes len framed touched gives rights_len each = record {
+sound_added x xs ys rights new_rights old new brk next new_brk new_next at given r sound added inside untouched bytes len framed touched free frames gives rights_len each = record {
   whole = added.all_whole;
+  adds_up = let before = sound.adds_up in omega (arith, ap count_marked framed, free, frames, before);
   few_pages = added.few_pages;
   table = record {
     len = rights_len ∙ sound.table.len;
@@ -194,44 +196,44 @@ zero_in zero (suc k) = refl
 zero_in (suc n) zero = refl
 zero_in (suc n) (suc k) = zero_in n k
 
-size_range : (x : Area) (q : ℕ) → is_among x.start (size_of x) q ≡ holds x q
+size_range : (x : Area) (q : ℕ) → is_among x.start (area_size x) q ≡ holds x q
 size_range x q = grind (arith, nat_tests)
 
-held_range : (x : Area) (q : ℕ) → is_among x.start (length (replicate {A = ℕ} (size_of x) 0)) q ≡ holds x q
+held_range : (x : Area) (q : ℕ) → is_among x.start (length (replicate {A = ℕ} (area_size x) 0)) q ≡ holds x q
 held_range x q =
     let zero_byte : ℕ = 0 in
-    let len = length-replicate (size_of x) zero_byte in
+    let len = length-replicate (area_size x) zero_byte in
     ap (λ n. is_among x.start n q) len ∙ size_range x q
 
 of_areas-added : (x : Area) (xs ys : List Area) (old new : List ℕ) (at : ℕ) (given : List ℕ)
     → ((a : ℕ) → is_mapped xs a ≡ false → get_or old a 0 ≡ 0) → IsWhole x → IsApart x xs → ((a : ℕ) → is_mapped ys a ≡ (holds x a || is_mapped xs a)) → IsWithin x at (length given)
     → ((q : ℕ) → get_or new q 0 ≡ cond (is_among at (length given) q) (get_or given (q - at) 0) (get_or old q 0))
-    → of_areas ys (λ q. get_or new q 0) ≡ put_bytes (put_bytes (of_areas xs (λ q. get_or old q 0)) x.start (replicate (size_of x) 0)) at given
+    → of_areas ys (λ q. get_or new q 0) ≡ put_bytes (put_bytes (of_areas xs (λ q. get_or old q 0)) x.start (replicate (area_size x) 0)) at given
 of_areas-added x xs ys old new at given rest whole apart mapped inside is =
     let order = whole.order in
     let fits = whole.fits in
     let end = inside.within in
     let zero_byte : ℕ = 0 in
-    let zeros : x.start + length (replicate (size_of x) zero_byte) ≤ 2 ^ 32 = omega (arith, length-replicate (size_of x) zero_byte) in
+    let zeros : x.start + length (replicate (area_size x) zero_byte) ≤ 2 ^ 32 = omega (arith, length-replicate (area_size x) zero_byte) in
     same_bytes _ _ (λ q.
     get-of_areas ys (λ k. get_or new k 0) q
     ∙ ap (λ v. cond (is_mapped ys q) (Some v) None) (is q)
     ∙ ap (λ t. cond t (Some (cond (is_among at (length given) q) (get_or given (q - at) 0) (get_or old q 0))) None) (mapped q)
-    ∙ area_bytes (is_among at (length given) q) (holds x q) (is_mapped xs q) (get_or given (q - at) 0) (get_or old q 0) (get_or (replicate (size_of x) 0) (q - x.start) 0)
-    (among_held x at (length given) q inside.from inside.within) (λ h. rest q (apart q h) ∙ sym (zero_in (size_of x) (q - x.start)))
-    ∙ ap (λ o. cond (is_among at (length given) q) (Some (get_or given (q - at) 0)) (cond (holds x q) (Some (get_or (replicate (size_of x) 0) (q - x.start) 0)) o)) (sym (get-of_areas xs (λ k. get_or old k 0) q))
-    ∙ ap (λ t. cond (is_among at (length given) q) (Some (get_or given (q - at) 0)) (cond t (Some (get_or (replicate (size_of x) 0) (q - x.start) 0)) (map.get (of_areas xs (λ k. get_or old k 0)) q))) (sym (held_range x q))
-    ∙ ap (cond (is_among at (length given) q) (Some (get_or given (q - at) 0))) (sym (get-put_bytes (of_areas xs (λ k. get_or old k 0)) x.start (replicate (size_of x) 0) zeros q))
-    ∙ sym (get-put_bytes (put_bytes (of_areas xs (λ k. get_or old k 0)) x.start (replicate (size_of x) 0)) at given (omega arith) q))
+    ∙ area_bytes (is_among at (length given) q) (holds x q) (is_mapped xs q) (get_or given (q - at) 0) (get_or old q 0) (get_or (replicate (area_size x) 0) (q - x.start) 0)
+    (among_held x at (length given) q inside.from inside.within) (λ h. rest q (apart q h) ∙ sym (zero_in (area_size x) (q - x.start)))
+    ∙ ap (λ o. cond (is_among at (length given) q) (Some (get_or given (q - at) 0)) (cond (holds x q) (Some (get_or (replicate (area_size x) 0) (q - x.start) 0)) o)) (sym (get-of_areas xs (λ k. get_or old k 0) q))
+    ∙ ap (λ t. cond (is_among at (length given) q) (Some (get_or given (q - at) 0)) (cond t (Some (get_or (replicate (area_size x) 0) (q - x.start) 0)) (map.get (of_areas xs (λ k. get_or old k 0)) q))) (sym (held_range x q))
+    ∙ ap (cond (is_among at (length given) q) (Some (get_or given (q - at) 0))) (sym (get-put_bytes (of_areas xs (λ k. get_or old k 0)) x.start (replicate (area_size x) 0) zeros q))
+    ∙ sym (get-put_bytes (put_bytes (of_areas xs (λ k. get_or old k 0)) x.start (replicate (area_size x) 0)) at given (omega arith) q))
 
 -- the bytes of a space to which an area is added
 pub bytes_added : (s : Space) (x : Area) (xs ys : List Area) (old new : List ℕ) (brk next new_brk new_next at : ℕ) (given : List ℕ)
     → space_over xs old brk next ≡ s → ((a : ℕ) → is_mapped xs a ≡ false → get_or old a 0 ≡ 0) → IsAdded x xs ys brk next new_brk new_next → IsWithin x at (length given)
     → ((q : ℕ) → get_or new q 0 ≡ cond (is_among at (length given) q) (get_or given (q - at) 0) (get_or old q 0))
-    → of_areas ys (λ q. get_or new q 0) ≡ put_bytes (put_bytes s.bytes x.start (replicate (size_of x) 0)) at given
+    → of_areas ys (λ q. get_or new q 0) ≡ put_bytes (put_bytes s.bytes x.start (replicate (area_size x) 0)) at given
 bytes_added s x xs ys old new brk next new_brk new_next at given e rest added inside is =
     of_areas-added x xs ys old new at given rest added.whole added.apart added.mapped inside is
-    ∙ ap (λ (t : Space). put_bytes (put_bytes t.bytes x.start (replicate (size_of x) 0)) at given) e
+    ∙ ap (λ (t : Space). put_bytes (put_bytes t.bytes x.start (replicate (area_size x) 0)) at given) e
 
 pub space_added : (s : Space) (x : Area) (xs : List Area) (old new : List ℕ) (brk next new_brk new_next i at : ℕ) (given : List ℕ)
     → space_over xs old brk next ≡ s → i ≡ position_or_len (comes_before x) xs
@@ -241,5 +243,5 @@ pub space_added : (s : Space) (x : Area) (xs : List Area) (old new : List ℕ) (
 unfolding with_area
 space_added s x xs old new brk next new_brk new_next i at given e place rest added inside is =
     ap (λ (b : Bytes). let t : Space = record { bytes = b; areas = insert xs i x; heap_break = brk; next_map = next } in t) (bytes_added s x xs (insert xs i x) old new brk next new_brk new_next at given e rest added inside is)
-    ∙ ap (λ (k : ℕ). let t : Space = record { bytes = put_bytes (put_bytes s.bytes x.start (replicate (size_of x) 0)) at given; areas = insert xs k x; heap_break = brk; next_map = next } in t) place
-    ∙ ap (λ (t : Space). let u : Space = record { bytes = put_bytes (put_bytes s.bytes x.start (replicate (size_of x) 0)) at given; areas = insert_area x t.areas; heap_break = t.heap_break; next_map = t.next_map } in u) e
+    ∙ ap (λ (k : ℕ). let t : Space = record { bytes = put_bytes (put_bytes s.bytes x.start (replicate (area_size x) 0)) at given; areas = insert xs k x; heap_break = brk; next_map = next } in t) place
+    ∙ ap (λ (t : Space). let u : Space = record { bytes = put_bytes (put_bytes s.bytes x.start (replicate (area_size x) 0)) at given; areas = insert_area x t.areas; heap_break = t.heap_break; next_map = t.next_map } in u) e

@@ -5,7 +5,7 @@ use Rattle.std.proofs.lemmas.Bool.{or_cases, cases_Bool, true≢false, false_fro
 use Rattle.std.proofs.lemmas.Bool.Decides.{nat_tests}
 use Rattle.std.proofs.lemmas.List.Edits.{length-insert}
 use Rattle.guest_model.specs.Areas.{is_mapped, holds}
-use Rattle.guest_model.specs.Added.{heap_area, empty_space, with_area, insert_area, comes_before, page_count, size_of}
+use Rattle.guest_model.specs.Added.{heap_area, empty_space, with_area, insert_area, comes_before, mapped_pages, area_size}
 use Rattle.guest_model.specs.Space.{Space}
 use Rattle.guest_model.specs.declared.Area.{Area}
 use Rattle.guest_mem.specs.Memory.{IsApart}
@@ -24,7 +24,7 @@ place_within p (x ∷ xs) =
 pub record Ascending (s : Space) (ends areas pages heap : ℕ) : Type 0 where
   pub below : (a : ℕ) → is_mapped s.areas a ≡ true → a < ends
   pub count : length s.areas ≡ areas
-  pub mapped : page_count s.areas ≡ pages
+  pub mapped : mapped_pages s.areas ≡ pages
   pub heap_is : s.heap_break ≡ heap
 
 pub areas_added : (s : Space) (x : Area) (at : ℕ) (given : List ℕ) → (with_area s x at given).areas ≡ insert_area x s.areas
@@ -49,7 +49,7 @@ ascending-empty s h e =
     record {
       below = λ a m. absurd (true≢false (sym m ∙ ap (λ l. is_mapped l a) areas ∙ heap_holds h a));
       count = ap length areas;
-      mapped = ap page_count areas ∙ no_size h;
+      mapped = ap mapped_pages areas ∙ no_size h;
       heap_is = ap (λ (t : Space). t.heap_break) e ∙ heap_begun h;
     }
 
@@ -60,7 +60,7 @@ held_from : (x : Area) (a : ℕ) → holds x a ≡ true → x.start ≤ a
 held_from x a h = grind (arith, nat_tests)
 
 pub ascending-added : (s t : Space) (x : Area) (at : ℕ) (given : List ℕ) (ends areas pages heap : ℕ) → t ≡ with_area s x at given → Ascending s ends areas pages heap → ends ≤ x.start → x.start ≤ x.end
-    → Ascending t x.end (areas + 1) (pages + size_of x / 4096) heap
+    → Ascending t x.end (areas + 1) (pages + area_size x / 4096) heap
 ascending-added s t x at given ends areas pages heap e known le order =
     let place = position_or_len (comes_before x) s.areas in
     let now = ap (λ (u : Space). u.areas) e ∙ areas_added s x at given in
@@ -70,7 +70,7 @@ ascending-added s t x at given ends areas pages heap e known le order =
         | inr h ↦ let lt = known.below a h in omega arith
       ];
       count = ap length now ∙ length-insert s.areas place x (place_within (comes_before x) s.areas) ∙ ap (λ n. n + 1) known.count;
-      mapped = ap page_count now ∙ pages_insert s.areas place x ∙ ap (λ n. n + size_of x / 4096) known.mapped;
+      mapped = ap mapped_pages now ∙ pages_insert s.areas place x ∙ ap (λ n. n + area_size x / 4096) known.mapped;
       heap_is = ap (λ (u : Space). u.heap_break) e ∙ heap_added s x at given ∙ known.heap_is;
     }
 

@@ -1,5 +1,5 @@
 -- The space with which a guest's memory begins.
-use Rattle.std.proofs.Common.{◌≡◌, ℕ, zero, suc, ◌-◌, ◌*◌, ◌/◌, ◌%◌, ◌^◌, ◌≤◌, ◌&&◌, false, List, [], ◌∷◌, length, get_or, refl, sym, ap, ◌∙◌, inl, inr, arith}
+use Rattle.std.proofs.Common.{◌≡◌, ℕ, ◌+◌, Bool, zero, suc, ◌-◌, ◌*◌, ◌/◌, ◌%◌, ◌^◌, ◌≤◌, ◌&&◌, false, List, [], ◌∷◌, length, get_or, refl, sym, ap, ◌∙◌, inl, inr, arith}
 use Rattle.std.specs.List.{All}
 use Rattle.std.specs.FinMap as map
 use Rattle.std.specs.Ordering.{nat_cmp}
@@ -7,15 +7,19 @@ use Rattle.std.proofs.lemmas.Bool.{cases_lt, cond-false}
 use Rattle.std.proofs.lemmas.Bool.Decides.{nat_tests}
 use Rattle.std.proofs.lemmas.List.{get_or_past}
 use Rattle.guest_model.specs.Areas.{is_mapped, is_permitted, rounded_up}
-use Rattle.guest_model.specs.Added.{heap_area, empty_space, page_count}
+use Rattle.guest_model.specs.Added.{heap_area, empty_space, mapped_pages}
 use Rattle.guest_model.specs.Bytes.{Bytes}
 use Rattle.guest_model.specs.Space.{Space}
 use Rattle.guest_model.specs.declared.Access.{Access}
 use Rattle.guest_model.specs.declared.Access.TheVariants.{Read, Write, Execute}
-use Rattle.page_store.specs.Contents.{Contents, flat, unmarked}
+use Rattle.page_store.specs.Contents.{Contents, flat, unmarked, count_marked}
 use Rattle.page_store.proofs.Flat.{length-flat, get_or-flat, length-unmarked, get_or-unmarked}
+use Rattle.page_store.proofs.Marks.{count_marked-unmarked}
 use Rattle.guest_mem.specs.Mapped.{of_areas, space_over}
-use Rattle.guest_mem.specs.Sound.{IsSound, IsWhole, IsOnOneSide, allows, no_rights}
+use Rattle.guest_mem.specs.Frames.{Frames}
+use Rattle.guest_mem.specs.Memory.{free_frames}
+use Rattle.guest_mem.specs.Sound.{IsSound, IsOnOneSide, allows, no_rights}
+use Rattle.guest_model.specs.Valid.{IsWhole}
 use Rattle.guest_mem.specs.declared.rights.Rights.{Rights}
 use Rattle.guest_mem.proofs.Mapped.{get-of_areas, same_bytes}
 
@@ -41,8 +45,8 @@ whole_heap : (h : ℕ) → h % 4096 ≡ 0 → h ≤ 0x40000000 → All IsWhole (
 whole_heap h page high zero d lt = record { start = page; end = page; order = omega arith; fits = omega arith }
 whole_heap h page high (suc k) d lt = absurd (omega arith)
 
-pub no_size : (h : ℕ) → page_count (heap_area h ∷ []) ≡ 0
-unfolding page_count
+pub no_size : (h : ℕ) → mapped_pages (heap_area h ∷ []) ≡ 0
+unfolding mapped_pages
 no_size h = let none : (h - h) / 4096 ≡ 0 = omega arith in omega (arith, none)
 
 heap_side : (h : ℕ) → h ≤ 0x40000000 → All IsOnOneSide (heap_area h ∷ [])
@@ -53,9 +57,11 @@ rounded : (h : ℕ) → h % 4096 ≡ 0 → rounded_up h ≡ h
 rounded h page = omega arith
 
 pub sound_empty : (h : ℕ) (rights : List Rights) (pages : Contents) → h % 4096 ≡ 0 → h ≤ 0x40000000 → length rights ≡ 2 ^ 20 → ((page : ℕ) → get_or rights page no_rights ≡ no_rights)
-    → pages.flat_bytes ≡ flat (λ _. 0) → pages.framed ≡ unmarked (2 ^ 20) → pages.touched ≡ unmarked (2 ^ 20) → IsSound (heap_area h ∷ []) rights pages h 0x40000000
-sound_empty h rights pages page high len none bytes framed touched = record {
+    → pages.flat_bytes ≡ flat (λ _. 0) → pages.framed ≡ unmarked (2 ^ 20) → pages.touched ≡ unmarked (2 ^ 20) → count_marked pages.framed + pages.free ≡ pages.frames
+    → IsSound (heap_area h ∷ []) rights pages h 0x40000000
+sound_empty h rights pages page high len none bytes framed touched adds_up = record {
   whole = whole_heap h page high;
+  adds_up = adds_up;
   few_pages = omega (arith, no_size h);
   table = record { len = len; each = λ access p lt. ap (allows access) (none p) ∙ nothing_allowed access ∙ sym (heap_permits access h (4096 * p)) };
   pages_len = ap length bytes ∙ length-flat (λ _. 0);
@@ -79,3 +85,13 @@ empty_over h all =
     let none : of_areas (heap_area h ∷ []) (λ q. get_or all q 0) ≡ map.empty =
     same_bytes _ _ (λ q. get-of_areas (heap_area h ∷ []) (λ k. get_or all k 0) q ∙ cond-false _ _ _ (heap_holds h q) ∙ sym (map.get-empty nat_cmp q)) in
     ap (λ (b : Bytes). let t : Space = record { bytes = b; areas = heap_area h ∷ []; heap_break = h; next_map = 0x40000000 } in t) none
+
+pub all_free : (framed written : List Bool) (free count frames : ℕ) → framed ≡ unmarked (2 ^ 20) → written ≡ unmarked (2 ^ 20) → free ≡ frames → count ≡ frames
+    → record { framed = framed; written = written; free = free; count = count } ≡ free_frames frames
+unfolding free_frames
+all_free framed written free count frames a b c d = cc
+
+-- in a new memory no page was written
+pub none_written : (f : Frames) (n : ℕ) → f ≡ free_frames n → count_marked f.written ≡ 0
+unfolding free_frames
+none_written f n e = ap (λ (g : Frames). count_marked g.written) e ∙ count_marked-unmarked (2 ^ 20)

@@ -6,11 +6,15 @@ use Rattle.std.proofs.lemmas.Bool.Decides.{nat_tests}
 use Rattle.std.proofs.lemmas.List.{get_or_past}
 use Rattle.std.proofs.lemmas.List.Sums.{sum_by-cons}
 use Rattle.guest_model.specs.Areas.{is_mapped, holds, wrap}
-use Rattle.guest_model.specs.Added.{page_count, size_of}
+use Rattle.guest_model.specs.Added.{mapped_pages, area_size}
 use Rattle.guest_model.specs.declared.Area.{Area}
-use Rattle.page_store.specs.Contents.{count_marked}
-use Rattle.guest_mem.specs.Frames.{is_page_of, frames_for, marked_for}
-use Rattle.guest_mem.specs.Sound.{IsWhole}
+use Rattle.page_store.specs.Contents.{Contents, count_marked}
+use Rattle.guest_mem.specs.Frames.{Frames, HasAllFrames, frames_for, marked_for}
+use Rattle.guest_mem.specs.Sound.{IsSound}
+use Rattle.guest_mem.specs.declared.rights.Rights.{Rights}
+use Rattle.guest_mem.proofs.Ranges.{frames_for_all-one}
+use Rattle.guest_model.specs.Range.{is_page_of, range}
+use Rattle.guest_model.specs.Valid.{IsWhole}
 use Rattle.guest_mem.proofs.Added.{is_page_in, holds_page}
 use Rattle.guest_mem.proofs.Permitted.{mapped_page, whole_head, whole_tail}
 use Rattle.guest_mem.proofs.Taken.{counted, length-marked_for, get_or-marked_for, count_marked-marked_for, any_none}
@@ -62,7 +66,7 @@ count_range lo hi s (suc n) =
 whole_size : (s e : ℕ) → s % 4096 ≡ 0 → e % 4096 ≡ 0 → e / 4096 - s / 4096 ≡ (e - s) / 4096
 whole_size s e f g = omega arith
 
-area_pages : (x : Area) (n : ℕ) → IsWhole x → count_by (λ page. holds x (4096 * page)) (range_with_len 0 n) ≤ size_of x / 4096
+area_pages : (x : Area) (n : ℕ) → IsWhole x → count_by (λ page. holds x (4096 * page)) (range_with_len 0 n) ≤ area_size x / 4096
 area_pages x n whole =
     let le = count_le (λ page. holds x (4096 * page)) (is_page_in x) (range_with_len 0 n) (λ page h. sym (holds_page x page whole) ∙ h) in
     let range = count_range (x.start / 4096) (x.end / 4096) 0 n in
@@ -73,22 +77,22 @@ no_page [] = refl
 no_page (x ∷ xs) = omega (arith, one_more (λ page. is_mapped [] (4096 * page)) x xs, no_page xs)
 
 -- at most as many pages are mapped as the areas have
-mapped_pages : (areas : List Area) (n : ℕ) → All IsWhole areas → count_by (λ page. is_mapped areas (4096 * page)) (range_with_len 0 n) ≤ page_count areas
-unfolding page_count
-mapped_pages [] n whole = omega (arith, no_page (range_with_len 0 n))
-mapped_pages (x ∷ xs) n whole =
+count_mapped : (areas : List Area) (n : ℕ) → All IsWhole areas → count_by (λ page. is_mapped areas (4096 * page)) (range_with_len 0 n) ≤ mapped_pages areas
+unfolding mapped_pages
+count_mapped [] n whole = omega (arith, no_page (range_with_len 0 n))
+count_mapped (x ∷ xs) n whole =
     omega (
       arith,
       count_either (λ page. holds x (4096 * page)) (λ page. is_mapped xs (4096 * page)) (range_with_len 0 n),
       area_pages x n (whole_head x xs whole),
-      mapped_pages xs n (whole_tail x xs whole),
-      sum_by-cons (λ y. size_of y / 4096) x xs,
+      count_mapped xs n (whole_tail x xs whole),
+      sum_by-cons (λ y. area_size y / 4096) x xs,
     )
 
 -- marks of mapped pages are at most so many
-few_marked : (areas : List Area) (marks : List Bool) → All IsWhole areas → ((page : ℕ) → get_or marks page false ≡ true → is_mapped areas (4096 * page) ≡ true) → count_marked marks ≤ page_count areas
+few_marked : (areas : List Area) (marks : List Bool) → All IsWhole areas → ((page : ℕ) → get_or marks page false ≡ true → is_mapped areas (4096 * page) ≡ true) → count_marked marks ≤ mapped_pages areas
 few_marked areas marks whole mapped =
-    omega (arith, counted marks, count_le (λ page. get_or marks page false) (λ page. is_mapped areas (4096 * page)) (range_with_len 0 (length marks)) mapped, mapped_pages areas (length marks) whole)
+    omega (arith, counted marks, count_le (λ page. get_or marks page false) (λ page. is_mapped areas (4096 * page)) (range_with_len 0 (length marks)) mapped, count_mapped areas (length marks) whole)
 
 in_mapped : (areas : List Area) (a i page : ℕ) → All IsWhole areas → is_mapped areas (wrap (a + i)) ≡ true → is_mapped areas (4096 * page) ≡ false → (wrap (a + i) / 4096 == page) ≡ false
 in_mapped areas a i page whole mapped none =
@@ -106,7 +110,7 @@ page_mapped areas a n page whole mapped h =
     ]
 
 -- the pages that a store in areas marks are mapped, as those that were marked
-pub frames_fit : (areas : List Area) (framed : List Bool) (a n free frames : ℕ) → All IsWhole areas → page_count areas ≤ 16384
+pub frames_fit : (areas : List Area) (framed : List Bool) (a n free frames : ℕ) → All IsWhole areas → mapped_pages areas ≤ 16384
     → ((page : ℕ) → get_or framed page false ≡ true → is_mapped areas (4096 * page) ≡ true) → count_marked framed + free ≡ frames
     → ((i : ℕ) → i < n → is_mapped areas (wrap (a + i)) ≡ true) → 16384 ≤ frames → frames_for framed a n ≤ free
 frames_fit areas framed a n free frames whole few mapped adds_up there all =
@@ -128,3 +132,13 @@ framed_mapped areas framed touched len told page h =
       | inl lt ↦ (and_parts (get_or touched page false) (is_mapped areas (4096 * page)) (sym (told page lt) ∙ h)).1
       | inr ge ↦ absurd (true≢false (sym h ∙ get_or_past framed page false (omega (arith, ge, len))))
     ]
+
+-- a store in areas has its frames
+pub enough_frames : (areas : List Area) (rights : List Rights) (pages : Contents) (brk next : ℕ) (f : Frames) (a n : ℕ) → IsSound areas rights pages brk next
+    → record { framed = pages.framed; written = pages.touched; free = pages.free; count = pages.frames } ≡ f
+    → ((i : ℕ) → i < n → is_mapped areas (wrap (a + i)) ≡ true) → HasAllFrames f (range a n ∷ []) → frames_for pages.framed a n ≤ pages.free
+enough_frames areas rights pages brk next f a n sound e mapped (inr suffice) =
+    omega (arith, suffice, ap (λ (g : Frames). g.free) e, ap (λ (g : Frames). frames_for g.framed a n) e, frames_for_all-one f.framed a n)
+enough_frames areas rights pages brk next f a n sound e mapped (inl all) =
+    frames_fit areas pages.framed a n pages.free pages.frames sound.whole sound.few_pages
+    (framed_mapped areas pages.framed pages.touched sound.framed_len sound.framed_where) sound.adds_up mapped (omega (arith, all, ap (λ (g : Frames). g.count) e))

@@ -7,17 +7,19 @@ use Rattle.std.proofs.lemmas.Bool.{eq-eqb, eqb-true}
 use Rattle.std.proofs.lemmas.Bool.Decides.{nat_tests}
 use Rattle.std.proofs.lemmas.List.Elements.{All-set}
 use Rattle.std.proofs.lemmas.List.Sums.{sum_by-set}
-use Rattle.guest_model.specs.Added.{page_count, size_of}
+use Rattle.guest_model.specs.Added.{mapped_pages, area_size}
 use Rattle.guest_model.specs.Areas.{holds, is_mapped, permits, rounded_up}
 use Rattle.guest_model.specs.Bytes.{Bytes, put_bytes}
-use Rattle.guest_model.specs.Maps.{maps_start, ends_low, heap_ended, grown}
+use Rattle.guest_model.specs.Maps.{ends_low, heap_ended, grown}
+use Rattle.guest_model.specs.declared.platform.TheConstants.{MAPS_START}
 use Rattle.guest_model.specs.Space.{Space}
 use Rattle.guest_model.specs.declared.Access.{Access}
 use Rattle.guest_model.specs.declared.Access.TheVariants.{Read, Write, Execute}
 use Rattle.guest_model.specs.declared.Area.{Area}
 use Rattle.page_store.specs.Contents.{Contents}
 use Rattle.guest_mem.specs.Mapped.{space_over}
-use Rattle.guest_mem.specs.Sound.{IsSound, IsWhole, IsOnOneSide, is_unused}
+use Rattle.guest_mem.specs.Sound.{IsSound, IsOnOneSide, is_unused}
+use Rattle.guest_model.specs.Valid.{IsWhole}
 use Rattle.guest_mem.specs.declared.rights.Rights.{Rights}
 use Rattle.guest_mem.proofs.Added.{IsAdded, IsWithin, bytes_added, turned}
 use Rattle.guest_mem.proofs.Heap.{NoneLow, heap_low, heap_at, ended_at, some_behind, rounded_bound}
@@ -56,13 +58,13 @@ rounded_page a = omega arith
 pub rounded_order : (a b : ℕ) → a ≤ b → rounded_up a ≤ rounded_up b
 rounded_order a b le = omega arith
 
-gained_unused : (x : Area) (brk next to a : ℕ) → x.end ≡ rounded_up brk → rounded_up to ≤ maps_start → holds (gained x (rounded_up to)) a ≡ true → is_unused brk next a ≡ true
+gained_unused : (x : Area) (brk next to a : ℕ) → x.end ≡ rounded_up brk → rounded_up to ≤ MAPS_START → holds (gained x (rounded_up to)) a ≡ true → is_unused brk next a ≡ true
 gained_unused x brk next to a e le h = grind (arith, nat_tests, e)
 
-still_unused : (x : Area) (brk next to a : ℕ) → x.end ≡ rounded_up brk → rounded_up brk ≤ rounded_up to → maps_start ≤ next → rounded_up to ≤ maps_start → is_unused to next a ≡ true → (is_unused brk next a ≡ true) × (holds (gained x (rounded_up to)) a ≡ false)
+still_unused : (x : Area) (brk next to a : ℕ) → x.end ≡ rounded_up brk → rounded_up brk ≤ rounded_up to → MAPS_START ≤ next → rounded_up to ≤ MAPS_START → is_unused to next a ≡ true → (is_unused brk next a ≡ true) × (holds (gained x (rounded_up to)) a ≡ false)
 still_unused x brk next to a e le low bound h = (grind (arith, nat_tests), grind (arith, nat_tests))
 
-low_ended : (x : Area) (end : ℕ) → end ≤ maps_start → ends_low (ended x end) ≡ true
+low_ended : (x : Area) (end : ℕ) → end ≤ MAPS_START → ends_low (ended x end) ≡ true
 low_ended x end le = grind (arith, nat_tests)
 
 more_pages : (s m e : ℕ) → s % 4096 ≡ 0 → m % 4096 ≡ 0 → s ≤ m → m ≤ e → (e - s) / 4096 ≡ (m - s) / 4096 + (e - m) / 4096
@@ -71,7 +73,7 @@ more_pages s m e f g le lf = omega arith
 pub some_low : (xs : List Area) (rights : List Rights) (pages : Contents) (brk next n : ℕ) → IsSound xs rights pages brk next → IsAfterLastMatch ends_low xs n → 1 ≤ n
 some_low xs rights pages brk next n sound last = some_behind xs n last (heap_low (rounded_up brk) xs sound.heap (rounded_bound brk sound.heap_bound))
 
-pub gained_untouched : (x : Area) (xs : List Area) (rights : List Rights) (pages : Contents) (brk next to : ℕ) → IsSound xs rights pages brk next → x.end ≡ rounded_up brk → to ≤ maps_start
+pub gained_untouched : (x : Area) (xs : List Area) (rights : List Rights) (pages : Contents) (brk next to : ℕ) → IsSound xs rights pages brk next → x.end ≡ rounded_up brk → to ≤ MAPS_START
     → (page : ℕ) → holds (gained x (rounded_up to)) (4096 * page) ≡ true → get_or pages.touched page false ≡ false
 gained_untouched x xs rights pages brk next to sound ends high page h = sound.unused_untouched page (gained_unused x brk next to (4096 * page) ends (rounded_bound to high) h)
 
@@ -106,9 +108,9 @@ pub heap_seen : (xs seen : List Area) (rights : List Rights) (pages : Contents) 
 heap_seen xs seen rights pages brk next n d sound e last within = heap_is xs rights pages brk next n d sound (rw e at last) (omega (arith, within, ap length e))
 
 pub grown_added : (xs : List Area) (rights : List Rights) (pages : Contents) (brk next to n : ℕ) (d : Area) → IsSound xs rights pages brk next → IsHeapAt (get_or xs (n - 1) d) xs n brk
-    → brk ≤ to → to ≤ maps_start → page_count xs + (rounded_up to - rounded_up brk) / 4096 ≤ 16384
+    → brk ≤ to → to ≤ MAPS_START → mapped_pages xs + (rounded_up to - rounded_up brk) / 4096 ≤ 16384
     → IsAdded (gained (get_or xs (n - 1) d) (rounded_up to)) xs (set xs (n - 1) (ended (get_or xs (n - 1) d) (rounded_up to))) brk next to next
-unfolding page_count
+unfolding mapped_pages
 grown_added xs rights pages brk next to n d sound heap order high few =
     let x = get_or xs (n - 1) d in
     let some = heap.some in
@@ -125,7 +127,7 @@ grown_added xs rights pages brk next to n d sound heap order high few =
     let up = rounded_order brk to order in
     let le : x.end ≤ end = omega (arith, ends, up) in
     let behind : suc (n - 1) ≡ n = omega arith in
-    let sum = sum_by-set (λ y. size_of y / 4096) xs (n - 1) (ended x end) d there in
+    let sum = sum_by-set (λ y. area_size y / 4096) xs (n - 1) (ended x end) d there in
     let new_heap = get_or-set_same xs (n - 1) (ended x end) d there in
     let none : NoneLow (set xs (n - 1) (ended x end)) (suc (n - 1)) = λ k e ge lt. none_set xs n (ended x end) some heap.none k e (omega arith) lt in
     record {

@@ -5,21 +5,22 @@ use Rattle.std.proofs.lemmas.Bool.{cases_Bool, cond-true, cond-false, or_left, o
 use Rattle.std.proofs.lemmas.Bool.Decides.{nat_tests}
 use Rattle.std.proofs.lemmas.List.Folds.{list_any_none, list_any_at}
 use Rattle.guest_model.specs.Areas.{rounded_up}
-use Rattle.guest_model.specs.Maps.{maps_start, ends_low, heap_ended}
+use Rattle.guest_model.specs.Maps.{ends_low, heap_ended}
+use Rattle.guest_model.specs.declared.platform.TheConstants.{MAPS_START}
 use Rattle.guest_model.specs.declared.Area.{Area}
 use Rattle.guest_mem.specs.Sound.{heap_ends}
 use Rattle.guest_mem.proofs.Added.{any_insert}
 
-pub rounded_bound : (a : ℕ) → a ≤ maps_start → rounded_up a ≤ maps_start
+pub rounded_bound : (a : ℕ) → a ≤ MAPS_START → rounded_up a ≤ MAPS_START
 rounded_bound a le = omega arith
 
-pub not_low : (x : Area) → maps_start < x.end → ends_low x ≡ false
+pub not_low : (x : Area) → MAPS_START < x.end → ends_low x ≡ false
 not_low x lt = grind (arith, nat_tests)
 
-pub low_end : (x : Area) (e : ℕ) → (x.end == e) ≡ true → e ≤ maps_start → ends_low x ≡ true
+pub low_end : (x : Area) (e : ℕ) → (x.end == e) ≡ true → e ≤ MAPS_START → ends_low x ≡ true
 low_end x e h le = grind (arith, nat_tests)
 
-pub heap_low : (e : ℕ) (xs : List Area) → heap_ends e xs ≡ true → e ≤ maps_start → list_any ends_low xs ≡ true
+pub heap_low : (e : ℕ) (xs : List Area) → heap_ends e xs ≡ true → e ≤ MAPS_START → list_any ends_low xs ≡ true
 heap_low e [] h le = h
 heap_low e (x ∷ xs) h le =
     elim (cases_Bool (list_any ends_low xs)) [
@@ -28,7 +29,7 @@ heap_low e (x ∷ xs) h le =
     ]
 
 -- an area that is not low changes nothing, wherever it is put
-pub heap_with_high : (e : ℕ) (xs : List Area) (i : ℕ) (x : Area) → ends_low x ≡ false → e ≤ maps_start → heap_ends e xs ≡ true → heap_ends e (insert xs i x) ≡ true
+pub heap_with_high : (e : ℕ) (xs : List Area) (i : ℕ) (x : Area) → ends_low x ≡ false → e ≤ MAPS_START → heap_ends e xs ≡ true → heap_ends e (insert xs i x) ≡ true
 heap_with_high e [] i x high le h = absurd (true≢false (sym h))
 heap_with_high e (y ∷ ys) zero x high le h = cond-true (list_any ends_low (y ∷ ys)) (heap_ends e (y ∷ ys)) (x.end == e) (heap_low e (y ∷ ys) h le) ∙ h
 heap_with_high e (y ∷ ys) (suc i) x high le h =

@@ -2,6 +2,7 @@ pub mod Permitted
 pub mod Mapped
 pub mod Numbers
 pub mod Taken
+pub mod Ranges
 pub mod Written
 pub mod Stored
 pub mod Added
@@ -13,4 +14,5 @@ pub mod Growing
 pub mod Cut
 pub mod Unmapped
 pub mod Enough
+pub mod Few
 pub mod Ascending

@@ -2,14 +2,16 @@
 use Rattle.std.proofs.Common.{◌≡◌, ℕ, ◌+◌, ◌-◌, ◌*◌, ◌/◌, ◌%◌, ◌<◌, ◌≤◌, true, false, cond, List, [], get_or, inr, ap, ◌∙◌, arith}
 use Rattle.std.specs.List.{insert, position_or_len}
 use Rattle.std.proofs.lemmas.Bool.Decides.{nat_tests}
-use Rattle.guest_model.specs.Added.{comes_before, page_count, size_of, with_area}
+use Rattle.guest_model.specs.Added.{comes_before, with_area, mapped_pages, area_size}
 use Rattle.guest_model.specs.Areas.{holds, is_mapped, rounded_up}
-use Rattle.guest_model.specs.Maps.{maps_start, maps_end, map_area, mapped}
+use Rattle.guest_model.specs.Maps.{map_area, mapped}
+use Rattle.guest_model.specs.declared.platform.TheConstants.{MAPS_START, MAPS_END}
 use Rattle.guest_model.specs.Space.{Space}
 use Rattle.guest_model.specs.declared.Area.{Area}
 use Rattle.page_store.specs.Contents.{Contents, is_among}
 use Rattle.guest_mem.specs.Mapped.{space_over}
-use Rattle.guest_mem.specs.Sound.{IsSound, IsWhole, IsOnOneSide, is_unused}
+use Rattle.guest_mem.specs.Sound.{IsSound, IsOnOneSide, is_unused}
+use Rattle.guest_model.specs.Valid.{IsWhole}
 use Rattle.guest_mem.specs.declared.rights.Rights.{Rights}
 use Rattle.guest_mem.proofs.Added.{IsAdded, IsWithin, all_insert, is_mapped-insert, is_permitted-insert, pages_insert, space_added}
 use Rattle.guest_mem.proofs.Heap.{heap_with_high, not_low, rounded_bound}
@@ -19,10 +21,10 @@ pub none_given : (at : ℕ) (all : List ℕ) (q : ℕ) → get_or all q 0 ≡ co
 none_given at all q = grind (arith, nat_tests)
 
 -- a range where maps will stand
-pub map_unused : (x : Area) (brk next a : ℕ) → next ≤ x.start → x.end ≤ maps_end → holds x a ≡ true → is_unused brk next a ≡ true
+pub map_unused : (x : Area) (brk next a : ℕ) → next ≤ x.start → x.end ≤ MAPS_END → holds x a ≡ true → is_unused brk next a ≡ true
 map_unused x brk next a le end h = grind (arith, nat_tests)
 
-later_unused : (x : Area) (brk next a : ℕ) → x.start ≡ next → next ≤ x.end → maps_start ≤ next → is_unused brk x.end a ≡ true → (is_unused brk next a ≡ true) × (holds x a ≡ false)
+later_unused : (x : Area) (brk next a : ℕ) → x.start ≡ next → next ≤ x.end → MAPS_START ≤ next → is_unused brk x.end a ≡ true → (is_unused brk next a ≡ true) × (holds x a ≡ false)
 later_unused x brk next a start order low h = (grind (arith, nat_tests), grind (arith, nat_tests))
 
 -- what is known of a new map
@@ -30,8 +32,8 @@ pub record IsNewMap (x : Area) (xs : List Area) (next_map : ℕ) : Type 0 where
   pub start : x.start ≡ next_map
   pub some : x.start < x.end
   pub page : x.end % 4096 ≡ 0
-  pub within : x.end ≤ maps_end
-  pub few : page_count xs + size_of x / 4096 ≤ 16384
+  pub within : x.end ≤ MAPS_END
+  pub few : mapped_pages xs + area_size x / 4096 ≤ 16384
 
 pub map_added : (x : Area) (xs : List Area) (rights : List Rights) (pages : Contents) (brk next i : ℕ) → IsSound xs rights pages brk next → IsNewMap x xs next → IsAdded x xs (insert xs i x) brk next brk x.end
 map_added x xs rights pages brk next i sound new =

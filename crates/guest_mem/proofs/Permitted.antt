@@ -8,7 +8,8 @@ use Rattle.std.specs.Prelude.{nat_le}
 use Rattle.std.specs.List.{All}
 use Rattle.guest_model.specs.declared.Area.{Area}
 use Rattle.guest_model.specs.declared.Access.{Access}
-use Rattle.guest_mem.specs.Sound.{IsWhole, HasRights, allows, no_rights}
+use Rattle.guest_mem.specs.Sound.{HasRights, allows, no_rights}
+use Rattle.guest_model.specs.Valid.{IsWhole}
 use Rattle.guest_mem.specs.declared.rights.Rights.{Rights}
 
 zero_add : (i : ℕ) → 0 + i ≡ i

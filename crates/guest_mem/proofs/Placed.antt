@@ -3,13 +3,15 @@ use Rattle.std.proofs.Common.{◌≡◌, ℕ, ◌+◌, ◌-◌, ◌/◌, ◌<◌
 use Rattle.std.specs.List.{IsAfterLastMatch, insert}
 use Rattle.std.proofs.lemmas.Bool.{cases_lt}
 use Rattle.std.proofs.lemmas.Bool.Decides.{nat_tests}
-use Rattle.guest_model.specs.Added.{page_count, size_of}
+use Rattle.guest_model.specs.Added.{mapped_pages, area_size}
 use Rattle.guest_model.specs.Areas.{holds, rounded_up}
-use Rattle.guest_model.specs.Maps.{maps_start, maps_end, ends_low}
+use Rattle.guest_model.specs.Maps.{ends_low}
+use Rattle.guest_model.specs.declared.platform.TheConstants.{MAPS_START, MAPS_END}
 use Rattle.guest_model.specs.declared.Area.{Area}
 use Rattle.page_store.specs.Contents.{Contents}
 use Rattle.guest_mem.specs.Memory.{IsApart}
-use Rattle.guest_mem.specs.Sound.{IsSound, IsWhole, IsOnOneSide, is_unused}
+use Rattle.guest_mem.specs.Sound.{IsSound, IsOnOneSide, is_unused}
+use Rattle.guest_model.specs.Valid.{IsWhole}
 use Rattle.guest_mem.specs.declared.rights.Rights.{Rights}
 use Rattle.guest_mem.proofs.Added.{IsAdded, all_insert, is_mapped-insert, is_permitted-insert, pages_insert}
 use Rattle.guest_mem.proofs.Heap.{heap_low, heap_with_before, heap_with_high, some_behind, not_low, rounded_bound}
@@ -19,17 +21,17 @@ pub record IsNew (x : Area) (xs : List Area) (heap_break : ℕ) : Type 0 where
   pub whole : IsWhole x
   pub apart : IsApart x xs
   pub place : (x.end ≤ heap_break) ⊎ (0x7FE00000 ≤ x.start)
-  pub few : page_count xs + size_of x / 4096 ≤ 16384
+  pub few : mapped_pages xs + area_size x / 4096 ≤ 16384
 
-low_unused : (x : Area) (brk next a : ℕ) → x.end ≤ brk → maps_start ≤ next → brk ≤ maps_start → is_unused brk next a ≡ true → holds x a ≡ false
+low_unused : (x : Area) (brk next a : ℕ) → x.end ≤ brk → MAPS_START ≤ next → brk ≤ MAPS_START → is_unused brk next a ≡ true → holds x a ≡ false
 low_unused x brk next a le low bound h = grind (arith, nat_tests)
 
-high_unused : (x : Area) (brk next a : ℕ) → maps_end ≤ x.start → is_unused brk next a ≡ true → holds x a ≡ false
+high_unused : (x : Area) (brk next a : ℕ) → MAPS_END ≤ x.start → is_unused brk next a ≡ true → holds x a ≡ false
 high_unused x brk next a le h = grind (arith, nat_tests)
 
 -- n is the place behind the heap
 pub added_new : (x : Area) (xs : List Area) (rights : List Rights) (pages : Contents) (brk next i n : ℕ) → IsSound xs rights pages brk next → IsNew x xs brk
-    → IsAfterLastMatch ends_low xs n → n ≤ length xs → (x.end ≤ maps_start → i < n) → IsAdded x xs (insert xs i x) brk next brk next
+    → IsAfterLastMatch ends_low xs n → n ≤ length xs → (x.end ≤ MAPS_START → i < n) → IsAdded x xs (insert xs i x) brk next brk next
 added_new x xs rights pages brk next i n sound new last within before =
     let bound = sound.heap_bound in
     let next_low = sound.next.low in
@@ -44,7 +46,7 @@ added_new x xs rights pages brk next i n sound new last within before =
       few_pages = omega (arith, pages_insert xs i x, new.few);
       sides = all_insert IsOnOneSide xs i x (elim new.place [ inl low ↦ inl (omega arith) | inr high ↦ inr (omega arith) ]) sound.sides;
       heap_bound = bound;
-      heap = elim (cases_lt maps_start x.end) [
+      heap = elim (cases_lt MAPS_START x.end) [
         | inl high ↦ heap_with_high (rounded_up brk) xs i x (not_low x high) (rounded_bound brk bound) sound.heap
         | inr low ↦ heap_with_before (rounded_up brk) xs i (n - 1) x x (omega arith) (last.1 some x) (let lt = before low in omega arith) ∙ sound.heap
       ];

@@ -1,12 +1,14 @@
 -- Bytes stored part by part.
-use Rattle.std.proofs.Common.{◌≡◌, ℕ, suc, ◌+◌, ◌-◌, ◌≤◌, ◌++◌, Bool, List, [], ◌∷◌, length, take, drop, refl, sym, ap, ◌∙◌, arith}
+use Rattle.std.proofs.Common.{◌≡◌, ℕ, suc, ◌+◌, ◌-◌, ◌≤◌, ◌++◌, Bool, List, [], ◌∷◌, length, take, drop, inl, inr, refl, sym, ap, subst, ◌∙◌, arith}
 use Rattle.std.specs.FinMap as map
 use Rattle.std.proofs.lemmas.List.{length-take-le, length-drop}
 use Rattle.std.proofs.Math.Seq.{take-add}
 use Rattle.guest_model.specs.Areas.{wrap}
 use Rattle.guest_model.specs.Bytes.{Bytes, put_bytes}
-use Rattle.guest_mem.specs.Frames.{frames_for, marked_for}
-use Rattle.guest_mem.proofs.Taken.{frames_for-split}
+use Rattle.guest_model.specs.Range.{range}
+use Rattle.guest_mem.specs.Frames.{Frames, HasAllFrames, TakesFrames, frames_for, marked_for}
+use Rattle.guest_mem.proofs.Ranges.{TakesAt, takes_one, frames_for_all-one}
+use Rattle.guest_mem.proofs.Taken.{frames_for-none, frames_for-split, marked_for-none, marked_for-split}
 
 pub put_none : (m : Bytes) (a : ℕ) → put_bytes m a [] ≡ m
 unfolding put_bytes
@@ -39,3 +41,35 @@ pub frames_left : (marks : List Bool) (a done part n free left : ℕ) → done +
 frames_left marks a done part n free left le enough is =
     let whole : done + part + (n - (done + part)) ≡ n = omega arith in
     omega (arith, enough, is, ap (frames_for marks a) whole, frames_for-split marks a (done + part) (n - (done + part)), frames_for-split marks a done part)
+
+pub takes_nothing : (f : Frames) (a : ℕ) → TakesAt f f a 0
+takes_nothing f a = record {
+  framed = sym (marked_for-none f.framed a);
+  written = sym (marked_for-none f.written a);
+  free = omega (arith, frames_for-none f.framed a);
+  count = refl;
+}
+
+-- the next part's frames, after those of the bytes before it
+pub takes_part : (old mid new : Frames) (a done part n : ℕ) → n ≡ part → TakesAt old mid a done → TakesAt mid new (a + done) n → TakesAt old new a (done + part)
+takes_part old mid new a done part n len before takes = record {
+  framed = takes.framed ∙ ap (marked_for mid.framed (a + done)) len ∙ ap (λ l. marked_for l (a + done) part) before.framed ∙ sym (marked_for-split old.framed a done part);
+  written = takes.written ∙ ap (marked_for mid.written (a + done)) len ∙ ap (λ l. marked_for l (a + done) part) before.written ∙ sym (marked_for-split old.written a done part);
+  free =
+      omega (arith, frames_for-split old.framed a done part, ap (λ l. frames_for l (a + done) part) before.framed, ap (frames_for mid.framed (a + done)) len, takes.free, before.free);
+  count = takes.count ∙ before.count;
+}
+
+-- frames that suffice for all bytes suffice for the next part
+pub has_left : (old now : Frames) (a done part n k : ℕ) → k ≡ part → done + part ≤ n → TakesAt old now a done → HasAllFrames old (range a n ∷ []) → HasAllFrames now (range (a + done) k ∷ [])
+has_left old now a done part n k len le before (inl all) = inl (omega (arith, all, before.count))
+has_left old now a done part n k len le before (inr suffice) =
+    let left = frames_left old.framed a done part n old.free now.free le (omega (arith, suffice, frames_for_all-one old.framed a n)) before.free in
+    inr (omega (arith, left, frames_for_all-one now.framed (a + done) k, ap (λ l. frames_for l (a + done) part) before.framed, ap (frames_for now.framed (a + done)) len))
+
+-- all bytes are stored
+pub takes_whole : (old new : Frames) (a done n : ℕ) → done ≤ n → n ≤ done → TakesAt old new a done → TakesFrames old new (range a n ∷ [])
+takes_whole old new a done n le ge takes =
+    let all : done ≡ n = omega arith in
+    let P : ℕ → Type 0 = λ k. TakesFrames old new (range a k ∷ []) in
+    subst P all (takes_one old new a done takes.framed takes.written takes.free takes.count)

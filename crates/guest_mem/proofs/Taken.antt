@@ -11,7 +11,8 @@ use Rattle.std.proofs.lemmas.List.Sums.{sum_by-cons}
 use Rattle.guest_model.specs.Areas.{wrap}
 use Rattle.page_store.specs.Contents.{count_marked}
 use Rattle.page_store.proofs.Marks.{count_marked-set, set_marked}
-use Rattle.guest_mem.specs.Frames.{is_page_of, frames_for, marked_for}
+use Rattle.guest_mem.specs.Frames.{frames_for, marked_for}
+use Rattle.guest_model.specs.Range.{is_page_of}
 
 any_from : (p : ℕ → Bool) (s n i : ℕ) → i < n → p (s + i) ≡ true → list_any p (range_with_len s n) ≡ true
 any_from p s zero i lt h = absurd (omega arith)
@@ -28,7 +29,7 @@ any_none p s (suc n) h =
     let rest = any_none p (s + 1) n (λ i lt. let next : s + 1 + i ≡ s + suc i = omega arith in ap p next ∙ h (suc i) (omega arith)) in
     grind (arith, here, rest)
 
-or_assoc : (x y z : Bool) → (x || (y || z)) ≡ ((x || y) || z)
+pub or_assoc : (x y z : Bool) → (x || (y || z)) ≡ ((x || y) || z)
 or_assoc true y z = refl
 or_assoc false y z = refl
 
@@ -99,7 +100,7 @@ pub get_or-marked_for : (marks : List Bool) (a n page : ℕ) → page < length m
 unfolding marked_for
 get_or-marked_for marks a n page lt = get_or-map-range_with_len (λ k. is_page_of a n k || get_or marks k false) 0 (length marks) page page false lt (omega arith)
 
-turned : (x y z : Bool) → ((x || y) || z) ≡ (y || (x || z))
+pub turned : (x y z : Bool) → ((x || y) || z) ≡ (y || (x || z))
 turned true true z = refl
 turned true false z = refl
 turned false y z = refl
@@ -144,12 +145,12 @@ one_of true false = refl
 one_of false true = refl
 one_of false false = refl
 
-count_or : (f h : ℕ → Bool) (xs : List ℕ) → count_by (λ p. f p || h p) xs ≡ count_by h xs + count_by (λ p. f p && not (h p)) xs
+pub count_or : (f h : ℕ → Bool) (xs : List ℕ) → count_by (λ p. f p || h p) xs ≡ count_by h xs + count_by (λ p. f p && not (h p)) xs
 count_or f h [] = refl
 count_or f h (x ∷ xs) =
     omega (arith, one_of (f x) (h x), count_or f h xs, sum_by-cons (λ p. cond {A = ℕ} (f p || h p) 1 0) x xs, sum_by-cons (λ p. cond {A = ℕ} (h p) 1 0) x xs, sum_by-cons (λ p. cond {A = ℕ} (f p && not (h p)) 1 0) x xs)
 
-count_map : (f : ℕ → Bool) (xs : List ℕ) → count_by (λ m. m) (map f xs) ≡ count_by f xs
+pub count_map : (f : ℕ → Bool) (xs : List ℕ) → count_by (λ m. m) (map f xs) ≡ count_by f xs
 count_map f [] = refl
 count_map f (x ∷ xs) = omega (arith, count_map f xs, sum_by-cons (λ (m : Bool). cond {A = ℕ} m 1 0) (f x) (map f xs), sum_by-cons (λ p. cond {A = ℕ} (f p) 1 0) x xs)
 
@@ -227,3 +228,9 @@ few_frames marks a n (suc k) within =
 -- n addresses lie in at most so many pages
 pub few_frames_of : (marks : List Bool) (a n : ℕ) → frames_for marks a n ≤ (n + 8190) / 4096
 few_frames_of marks a n = few_frames marks a n ((n + 8190) / 4096) (omega arith)
+
+-- the pages of the first bytes of a range are among its pages
+pub page_of_part : (a n size page : ℕ) → n ≤ size → is_page_of a n page ≡ true → is_page_of a size page ≡ true
+page_of_part a n size page within h =
+    let parts : size ≡ n + (size - n) = omega arith in
+    ap (λ (k : ℕ). is_page_of a k page) parts ∙ (is_page_of-split a n (size - n) page ∙ ap (λ (b : Bool). b || is_page_of (a + n) (size - n) page) h)

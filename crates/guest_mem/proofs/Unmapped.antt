@@ -10,18 +10,20 @@ use Rattle.std.proofs.lemmas.List.Elements.{All-append, All-nil}
 use Rattle.std.proofs.lemmas.List.Folds.{list_any-append}
 use Rattle.std.proofs.lemmas.List.FromFn.{get_or-map-range_with_len, length-map-range_with_len}
 use Rattle.std.proofs.lemmas.List.Sums.{sum_by-append, sum_by-cons}
-use Rattle.guest_model.specs.Added.{page_count, size_of}
+use Rattle.guest_model.specs.Added.{mapped_pages, area_size}
 use Rattle.guest_model.specs.Areas.{is_mapped, is_permitted, holds, permits, rounded_up}
 use Rattle.guest_model.specs.Bytes.{Bytes}
-use Rattle.guest_model.specs.Maps.{maps_start, maps_end, is_in_range, ends_low, left_below, left_above, cut, cut_areas, without_range}
+use Rattle.guest_model.specs.Maps.{is_in_range, ends_low, left_below, left_above, cut, cut_areas, without_range}
+use Rattle.guest_model.specs.declared.platform.TheConstants.{MAPS_START, MAPS_END}
 use Rattle.guest_model.specs.Space.{Space}
 use Rattle.guest_model.specs.declared.Access.{Access}
 use Rattle.guest_model.specs.declared.Access.TheVariants.{Read, Write, Execute}
 use Rattle.guest_model.specs.declared.Area.{Area}
-use Rattle.page_store.specs.Contents.{Contents}
+use Rattle.page_store.specs.Contents.{Contents, count_marked}
 use Rattle.guest_mem.specs.Frames.{marked_in}
 use Rattle.guest_mem.specs.Mapped.{of_areas, space_over}
-use Rattle.guest_mem.specs.Sound.{IsSound, IsWhole, IsOnOneSide, allows, no_rights, heap_ends, is_cut}
+use Rattle.guest_mem.specs.Sound.{IsSound, IsOnOneSide, allows, no_rights, heap_ends, is_cut}
+use Rattle.guest_model.specs.Valid.{IsWhole}
 use Rattle.guest_mem.specs.declared.rights.Rights.{Rights}
 use Rattle.guest_mem.proofs.Added.{all_cons, not_permitted}
 use Rattle.guest_mem.proofs.Begun.{nothing_allowed}
@@ -131,9 +133,9 @@ meets_of a b c d h = grind (arith, nat_tests)
 pub record IsMapRange (from to : ℕ) : Type 0 where
   pub from_page : from % 4096 ≡ 0
   pub to_page : to % 4096 ≡ 0
-  pub low : maps_start ≤ from
+  pub low : MAPS_START ≤ from
   pub order : from ≤ to
-  pub high : to ≤ maps_end
+  pub high : to ≤ MAPS_END
 
 whole_cut : (from to : ℕ) (xs : List Area) → IsMapRange from to → All IsWhole xs → All IsWhole (cut_areas from to xs)
 whole_cut from to xs range all =
@@ -148,7 +150,7 @@ whole_cut from to xs range all =
     (λ meets below. let lt = lt_of x.start from below in let both = meets_of x.start to from x.end meets in record { start = start; end = from_page; order = omega arith; fits = omega (arith, both.1) })
     (λ meets above. let lt = lt_of to x.end above in record { start = to_page; end = end; order = omega arith; fits = fits })) all
 
-side_of : (x : Area) (from : ℕ) → maps_start ≤ from → from < x.end → IsOnOneSide x → maps_start ≤ x.start
+side_of : (x : Area) (from : ℕ) → MAPS_START ≤ from → from < x.end → IsOnOneSide x → MAPS_START ≤ x.start
 side_of x from low lt (inl le) = absurd (omega arith)
 side_of x from low lt (inr ge) = ge
 
@@ -161,8 +163,8 @@ sides_cut from to xs range all =
     (λ meets above. inr (omega arith))) all
 
 -- no part of an area has more pages
-pages_if : (b : Bool) (y : Area) → sum_by (λ x. size_of x / 4096) (cond b (y ∷ []) []) ≡ cond b (size_of y / 4096) 0
-pages_if true y = omega (arith, sum_by-cons (λ (x : Area). size_of x / 4096) y [])
+pages_if : (b : Bool) (y : Area) → sum_by (λ x. area_size x / 4096) (cond b (y ∷ []) []) ≡ cond b (area_size y / 4096) 0
+pages_if true y = omega (arith, sum_by-cons (λ (x : Area). area_size x / 4096) y [])
 pages_if false y = refl
 
 fewer_pages : (b c : Bool) (from to start end : ℕ) → from ≤ to → start < to → from < end → (b ≡ true → start < from) → (c ≡ true → to < end) → cond b ((from - start) / 4096) 0 + cond c ((end - to) / 4096) 0 ≤ (end - start) / 4096
@@ -171,37 +173,37 @@ fewer_pages true false from to start end le l m f g = let below = f refl in omeg
 fewer_pages false true from to start end le l m f g = let above = g refl in omega arith
 fewer_pages false false from to start end le l m f g = omega arith
 
-pages_cut_one : (from to : ℕ) (x : Area) → from ≤ to → sum_by (λ y. size_of y / 4096) (cut from to x) ≤ size_of x / 4096
+pages_cut_one : (from to : ℕ) (x : Area) → from ≤ to → sum_by (λ y. area_size y / 4096) (cut from to x) ≤ area_size x / 4096
 pages_cut_one from to x le =
     elim (cases_Bool (nat_lt x.start to && nat_lt from x.end)) [
       | inl meets ↦
           let both = meets_of x.start to from x.end meets in
-          let parts = ap (sum_by (λ y. size_of y / 4096)) (cond-true _ (left_below from x ++ left_above to x) (x ∷ []) meets) in
-          let sum = sum_by-append (λ (y : Area). size_of y / 4096) (left_below from x) (left_above to x) in
+          let parts = ap (sum_by (λ y. area_size y / 4096)) (cond-true _ (left_below from x ++ left_above to x) (x ∷ []) meets) in
+          let sum = sum_by-append (λ (y : Area). area_size y / 4096) (left_below from x) (left_above to x) in
           let below = pages_if (nat_lt x.start from) (record x { end = from }) in
           let above = pages_if (nat_lt to x.end) (record x { start = to }) in
           let few = fewer_pages (nat_lt x.start from) (nat_lt to x.end) from to x.start x.end le both.0 both.1 (lt_of x.start from) (lt_of to x.end) in
           omega (arith, parts, sum, below, above, few)
       | inr misses ↦
-          let same = ap (sum_by (λ y. size_of y / 4096)) (cond-false _ (left_below from x ++ left_above to x) (x ∷ []) misses) in
-          omega (arith, same, sum_by-cons (λ (y : Area). size_of y / 4096) x [])
+          let same = ap (sum_by (λ y. area_size y / 4096)) (cond-false _ (left_below from x ++ left_above to x) (x ∷ []) misses) in
+          omega (arith, same, sum_by-cons (λ (y : Area). area_size y / 4096) x [])
     ]
 
-pages_cut : (from to : ℕ) (xs : List Area) → from ≤ to → page_count (cut_areas from to xs) ≤ page_count xs
-unfolding page_count cut_areas
+pages_cut : (from to : ℕ) (xs : List Area) → from ≤ to → mapped_pages (cut_areas from to xs) ≤ mapped_pages xs
+unfolding mapped_pages cut_areas
 pages_cut from to [] le = omega arith
 pages_cut from to (x ∷ xs) le =
-    omega (arith, sum_by-append (λ (y : Area). size_of y / 4096) (cut from to x) (flat_map (cut from to) xs), pages_cut_one from to x le, pages_cut from to xs le, sum_by-cons (λ (y : Area). size_of y / 4096) x xs)
+    omega (arith, sum_by-append (λ (y : Area). area_size y / 4096) (cut from to x) (flat_map (cut from to) xs), pages_cut_one from to x le, pages_cut from to xs le, sum_by-cons (λ (y : Area). area_size y / 4096) x xs)
 
 -- the heap stays, whatever is unmapped where maps stand
-misses_low : (from to : ℕ) (x : Area) → maps_start ≤ from → ends_low x ≡ true → cut from to x ≡ x ∷ []
+misses_low : (from to : ℕ) (x : Area) → MAPS_START ≤ from → ends_low x ≡ true → cut from to x ≡ x ∷ []
 misses_low from to x low h = cond-false _ (left_below from x ++ left_above to x) (x ∷ []) (grind (arith, nat_tests))
 
 not_low_part : (p : Bool) (y : Area) → (p ≡ true → ends_low y ≡ false) → list_any ends_low (cond p (y ∷ []) []) ≡ false
 not_low_part true y h = or_none (ends_low y) ∙ h refl
 not_low_part false y h = refl
 
-low_cut_one : (from to : ℕ) (x : Area) → maps_start ≤ from → from ≤ to → IsOnOneSide x → list_any ends_low (cut from to x) ≡ ends_low x
+low_cut_one : (from to : ℕ) (x : Area) → MAPS_START ≤ from → from ≤ to → IsOnOneSide x → list_any ends_low (cut from to x) ≡ ends_low x
 low_cut_one from to x low le side =
     elim (cases_Bool (nat_lt x.start to && nat_lt from x.end)) [
       | inl meets ↦
@@ -215,7 +217,7 @@ low_cut_one from to x low le side =
       | inr misses ↦ ap (list_any ends_low) (cond-false _ (left_below from x ++ left_above to x) (x ∷ []) misses) ∙ or_none (ends_low x)
     ]
 
-low_cut : (from to : ℕ) (xs : List Area) → maps_start ≤ from → from ≤ to → All IsOnOneSide xs → list_any ends_low (cut_areas from to xs) ≡ list_any ends_low xs
+low_cut : (from to : ℕ) (xs : List Area) → MAPS_START ≤ from → from ≤ to → All IsOnOneSide xs → list_any ends_low (cut_areas from to xs) ≡ list_any ends_low xs
 unfolding cut_areas
 low_cut from to [] low le sides = refl
 low_cut from to (x ∷ xs) low le sides =
@@ -229,7 +231,7 @@ heap_behind e (y ∷ ys) zs some =
     cond-true (list_any ends_low (ys ++ zs)) (heap_ends e (ys ++ zs)) (y.end == e) (list_any-append ends_low ys zs ∙ or_right (list_any ends_low ys) (list_any ends_low zs) some)
     ∙ heap_behind e ys zs some
 
-heap_cut : (e from to : ℕ) (xs : List Area) → maps_start ≤ from → from ≤ to → e ≤ maps_start → All IsOnOneSide xs → heap_ends e xs ≡ true → heap_ends e (cut_areas from to xs) ≡ true
+heap_cut : (e from to : ℕ) (xs : List Area) → MAPS_START ≤ from → from ≤ to → e ≤ MAPS_START → All IsOnOneSide xs → heap_ends e xs ≡ true → heap_ends e (cut_areas from to xs) ≡ true
 unfolding cut_areas
 heap_cut e from to [] low le bound sides h = h
 heap_cut e from to (x ∷ xs) low le bound sides h =
@@ -270,14 +272,15 @@ and_unmapped false m e = refl
 pub sound_cut : (xs : List Area) (rights new_rights : List Rights) (old new : Contents) (brk next from to : ℕ) → IsSound xs rights old brk next → IsMapRange from to
     → ((q : ℕ) → get_or new.flat_bytes q 0 ≡ cond (is_cut from to xs q) 0 (get_or old.flat_bytes q 0)) → length new.flat_bytes ≡ 2 ^ 32
     → ((page : ℕ) → get_or new.framed page false ≡ (not (is_cut from to xs (4096 * page)) && get_or old.framed page false)) → length new.framed ≡ length old.framed
-    → new.touched ≡ old.touched
+    → new.touched ≡ old.touched → (count_marked old.framed + old.free ≡ old.frames → count_marked new.framed + new.free ≡ new.frames)
     → ((page : ℕ) → get_or new_rights page no_rights ≡ cond (is_cut from to xs (4096 * page)) no_rights (get_or rights page no_rights)) → length new_rights ≡ 2 ^ 20
     → IsSound (cut_areas from to xs) new_rights new brk next
-sound_cut xs rights new_rights old new brk next from to sound range bytes len framed framed_len touched each table_len =
+sound_cut xs rights new_rights old new brk next from to sound range bytes len framed framed_len touched adds_up each table_len =
     let low = range.low in
     let le = range.order in
     record {
       whole = whole_cut from to xs range sound.whole;
+      adds_up = adds_up sound.adds_up;
       few_pages = let few = sound.few_pages in omega (arith, pages_cut from to xs le, few);
       table = record {
         len = table_len;

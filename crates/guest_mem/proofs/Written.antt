@@ -6,9 +6,10 @@ use Rattle.std.proofs.lemmas.Bool.{cases_eq, cases_Bool, true≢false}
 use Rattle.std.proofs.lemmas.Bool.Decides.{nat_tests}
 use Rattle.guest_model.specs.Areas.{is_mapped, wrap}
 use Rattle.guest_model.specs.declared.Area.{Area}
-use Rattle.page_store.specs.Contents.{Contents, is_among}
+use Rattle.page_store.specs.Contents.{Contents, is_among, count_marked}
 use Rattle.guest_mem.specs.Frames.{frames_for, marked_for}
-use Rattle.guest_mem.specs.Sound.{IsSound, IsWhole}
+use Rattle.guest_mem.specs.Sound.{IsSound}
+use Rattle.guest_model.specs.Valid.{IsWhole}
 use Rattle.guest_mem.specs.declared.rights.Rights.{Rights}
 use Rattle.guest_mem.proofs.Permitted.{mapped_page}
 use Rattle.guest_mem.proofs.Taken.{marked_for-one, frames_for-one}
@@ -58,10 +59,11 @@ framed_there false m h k = sym h
 pub sound_written : (areas : List Area) (rights : List Rights) (old new : Contents) (brk next a : ℕ) (source : List ℕ)
     → IsSound areas rights old brk next → a < 2 ^ 32 → a % 4096 + length source ≤ 4096 → is_mapped areas a ≡ true
     → ((q : ℕ) → get_or new.flat_bytes q 0 ≡ cond (is_among a (length source) q) (get_or source (q - a) 0) (get_or old.flat_bytes q 0))
-    → length new.flat_bytes ≡ 2 ^ 32 → new.framed ≡ set old.framed (a / 4096) true → new.touched ≡ set old.touched (a / 4096) true
+    → length new.flat_bytes ≡ 2 ^ 32 → new.framed ≡ set old.framed (a / 4096) true → new.touched ≡ set old.touched (a / 4096) true → count_marked new.framed + new.free ≡ new.frames
     → IsSound areas rights new brk next
-sound_written areas rights old new brk next a source sound fits within here bytes len framed touched = record {
+sound_written areas rights old new brk next a source sound fits within here bytes len framed touched adds_up = record {
   whole = sound.whole;
+  adds_up = adds_up;
   few_pages = sound.few_pages;
   table = sound.table;
   pages_len = len;
@@ -91,3 +93,12 @@ sound_written areas rights old new brk next a source sound fits within here byte
     | inr ne ↦ ap (λ l. get_or l page false) touched ∙ get_or-set_other old.touched (a / 4096) page true false ne ∙ sound.unused_untouched page h
   ];
 }
+
+wrap_small : (a : ℕ) → a < 2 ^ 32 → wrap a ≡ a
+wrap_small a lt = omega arith
+
+-- the addresses of one page, from one that an area holds on
+pub mapped_along : (areas : List Area) (a n : ℕ) → All IsWhole areas → a < 2 ^ 32 → is_mapped areas a ≡ true → a % 4096 + n ≤ 4096
+    → (i : ℕ) → i < n → is_mapped areas (wrap (a + i)) ≡ true
+mapped_along areas a n whole fits here within i lt =
+    ap (is_mapped areas) (wrap_small (a + i) (omega arith)) ∙ mapped_among areas a n whole here within (a + i) (grind (arith, nat_tests))

@@ -1,21 +1,66 @@
--- Which pages of 4,096 bytes a store touches, and how many frames it takes.
-use Rattle.std.specs.Prelude.{ℕ, ◌+◌, ◌*◌, ◌/◌, ◌==◌, Bool, ◌&&◌, ◌||◌, not, false, List, length, map, slice_index_or}
-use Rattle.std.specs.List.{count_by, list_any, range_with_len}
-use Rattle.guest_model.specs.Areas.{wrap, is_mapped}
+-- The frames of the pages of a guest's memory: a page takes one when it is first written.
+use Rattle.std.specs.Prelude.{◌≡◌, ℕ, ◌+◌, ◌*◌, ◌≤◌, ◌⊎◌, Bool, ◌&&◌, ◌||◌, not, false, List, length, map, slice_index_or, refl}
+use Rattle.std.specs.Coded.{Coded, coded_ℕ, coded_bool, coded_list, coded×, code_by}
+use Rattle.std.specs.List.{count_by, range_with_len}
+use Rattle.guest_model.specs.Areas.{is_mapped}
+use Rattle.guest_model.specs.Range.{Range, is_page_of, is_page_among}
 use Rattle.guest_model.specs.declared.Area.{Area}
+use Rattle.guest_model.specs.declared.platform.TheConstants.{MOST_PAGES, PAGE_SIZE}
+use Rattle.page_store.specs.Contents.{count_marked}
 
--- whether the page holds one of the n addresses from a on, modulo 2^32
-unfoldable pub is_page_of : ℕ → ℕ → ℕ → Bool
-is_page_of a n page = list_any (λ i. wrap (a + i) / 4096 == page) (range_with_len 0 n)
+pub record Frames : Type 0 where
+  -- for each page, whether it has a frame
+  pub framed : List Bool
+  -- for each page, whether it was written since the space was made, also if it is mapped no longer
+  pub written : List Bool
+  -- how many frames are free
+  pub free : ℕ
+  -- how many frames there are
+  pub count : ℕ
 
--- how many of the pages that hold these addresses have no frame
+-- how many of the pages that hold the n addresses from a on have no frame
 unfoldable pub frames_for : List Bool → ℕ → ℕ → ℕ
-frames_for framed a n = count_by (λ page. is_page_of a n page && not (slice_index_or framed page false)) (range_with_len 0 (length framed))
+frames_for framed a n =
+    count_by (λ page. is_page_of a n page && not (slice_index_or framed page false)) (range_with_len 0 (length framed))
 
--- the marks of pages, with those that hold these addresses marked too
+-- the same of ranges
+unfoldable pub frames_for_all : List Bool → List Range → ℕ
+frames_for_all framed ranges =
+    count_by (λ page. is_page_among ranges page && not (slice_index_or framed page false)) (range_with_len 0 (length framed))
+
+-- the marks of pages, with those that hold the n addresses from a on marked too
 unfoldable pub marked_for : List Bool → ℕ → ℕ → List Bool
 marked_for marks a n = map (λ page. is_page_of a n page || slice_index_or marks page false) (range_with_len 0 (length marks))
 
+-- the same of ranges
+unfoldable pub marked_for_all : List Bool → List Range → List Bool
+marked_for_all marks ranges =
+    map (λ page. is_page_among ranges page || slice_index_or marks page false) (range_with_len 0 (length marks))
+
 -- the marks of pages, without those of pages that are mapped no longer
 unfoldable pub marked_in : List Area → List Bool → List Bool
-marked_in areas marks = map (λ page. slice_index_or marks page false && is_mapped areas (4096 * page)) (range_with_len 0 (length marks))
+marked_in areas marks =
+    map (λ page. slice_index_or marks page false && is_mapped areas (PAGE_SIZE * page)) (range_with_len 0 (length marks))
+
+-- a store in these ranges lacks no frame: there is one for each page that can be mapped, or enough are free
+abbrev pub HasAllFrames : Frames → List Range → Type 0
+HasAllFrames f ranges = (MOST_PAGES ≤ f.count) ⊎ (frames_for_all f.framed ranges ≤ f.free)
+
+-- a store in these ranges takes its frames
+pub record TakesFrames (old new : Frames) (ranges : List Range) : Type 0 where
+  pub framed : new.framed ≡ marked_for_all old.framed ranges
+  pub written : new.written ≡ marked_for_all old.written ranges
+  pub free : new.free + frames_for_all old.framed ranges ≡ old.free
+  pub count : new.count ≡ old.count
+
+-- the frames of pages that are mapped no longer become free
+pub record GivesFramesBack (areas : List Area) (old new : Frames) : Type 0 where
+  pub framed : new.framed ≡ marked_in areas old.framed
+  pub written : new.written ≡ old.written
+  pub free : count_marked new.framed + new.free ≡ new.count
+  pub count : new.count ≡ old.count
+
+abbrev pub frames_code : Coded Frames
+frames_code = code_by (List Bool × (List Bool × (ℕ × ℕ))) (coded× (coded_list coded_bool) (coded× (coded_list coded_bool) (coded× coded_ℕ coded_ℕ)))
+    (λ f. (f.framed, (f.written, (f.free, f.count))))
+    (λ p. record { framed = p.0; written = p.1.0; free = p.1.1.0; count = p.1.1.1 }) (λ _. refl)

@@ -1,34 +1,32 @@
 // The areas of a guest's memory, as a list.
 ghost use Rattle.std.specs.Prelude.{[], ◌∷◌, ◌++◌, ◌≡◌, true, false, MatchOption, ℕ, ◌+◌, ◌*◌, ◌/◌, ◌^◌, ◌<◌, ◌≤◌, length, slice_index_or, slice_set};
 ghost use Rattle.std.specs.List.{IsAfterLastMatch, position_or_len};
-ghost use Rattle.guest_model.specs.Added.{comes_before, page_count as pages_of};
-ghost use Rattle.guest_model.specs.Areas.{rounded_up as rounded};
-ghost use Rattle.guest_model.specs.Maps.{ends_low, cut, cut_areas as areas_cut};
+ghost use Rattle.guest_model.specs.Added.{comes_before, mapped_pages};
+ghost use Rattle.guest_model.specs.Areas.{rounded_up};
+ghost use Rattle.guest_model.specs.Maps.{ends_low, cut, cut_areas};
 ghost use Rattle.guest_model.specs.declared.Area.{Area as Areas};
 
 use arrayvec::ArrayVec;
 use guest_model::Area;
-
-/// Where maps start.
-pub(crate) const MAPS: u32 = 0x4000_0000;
+use guest_model::platform::{MAPS_START, MOST_AREAS, PAGE_SIZE};
 
 /// A size or an address rounded up to whole pages of 4,096 bytes.
 pub(crate) fn rounded_up(size: u64) -> u64
     requires { size ≤ 2 ^ 32 }
-    ensures { result ≡ rounded size }
+    ensures { result ≡ rounded_up size }
 {
-    (size + 4095) / 4096 * 4096
+    (size + (PAGE_SIZE as u64 - 1)) / PAGE_SIZE as u64 * PAGE_SIZE as u64
 }
 
 /// How many pages of 4,096 bytes the areas have.
-#[tactic(auto, unfolding(guest_model::specs::Added::page_count))]
-pub(crate) fn page_count(areas: &[Area]) -> u64
-    requires { length areas.now ≤ 64 }
-    ensures { result ≡ pages_of areas.now }
+#[tactic(auto, unfolding(guest_model::specs::Added::mapped_pages))]
+pub(crate) fn mapped_pages(areas: &[Area]) -> u64
+    requires { length areas.now ≤ MOST_AREAS }
+    ensures { result ≡ mapped_pages areas.now }
 {
     let mut count = 0;
     for area in areas {
-        count += (area.end.saturating_sub(area.start) / 4096) as u64;
+        count += (area.end.saturating_sub(area.start) / PAGE_SIZE) as u64;
     }
     count
 }
@@ -53,7 +51,7 @@ pub(crate) fn behind_heap(areas: &[Area]) -> usize
 {
     let mut behind = 0;
     for (i, area) in areas.iter().enumerate() {
-        if area.end <= MAPS {
+        if area.end <= MAPS_START {
             behind = i + 1;
         }
     }
@@ -62,8 +60,8 @@ pub(crate) fn behind_heap(areas: &[Area]) -> usize
 
 /// The areas that are left where a range is unmapped, if they are at most 64.
 #[tactic(auto, using(crate::proofs::Cut::cut_rules))]
-pub(crate) fn cut_areas(areas: &[Area], from: u32, to: u32) -> Option<ArrayVec<Area, 64>>
-    ensures { MatchOption result (64 < length (areas_cut from to areas.now)) (λ left. left.items ≡ areas_cut from to areas.now) }
+pub(crate) fn cut_areas(areas: &[Area], from: u32, to: u32) -> Option<ArrayVec<Area, MOST_AREAS>>
+    ensures { MatchOption result (MOST_AREAS < length (cut_areas from to areas.now)) (λ left. left.items ≡ cut_areas from to areas.now) }
 {
     let mut left = ArrayVec::new();
     for area in areas {
@@ -75,9 +73,9 @@ pub(crate) fn cut_areas(areas: &[Area], from: u32, to: u32) -> Option<ArrayVec<A
 }
 
 /// Appends what is left of an area on each side of the range, if there is room.
-fn push_parts(left: &mut ArrayVec<Area, 64>, area: &Area, from: u32, to: u32) -> bool
+fn push_parts(left: &mut ArrayVec<Area, MOST_AREAS>, area: &Area, from: u32, to: u32) -> bool
     ensures pushed { result ≡ true → left.new.items ≡ left.old.items ++ cut from to area.now }
-    ensures full { result ≡ false → 64 < length left.old.items + length (cut from to area.now) }
+    ensures full { result ≡ false → MOST_AREAS < length left.old.items + length (cut from to area.now) }
 {
     if area.start >= to || from >= area.end {
         return left.try_push(*area).is_ok();
@@ -92,7 +90,7 @@ fn push_parts(left: &mut ArrayVec<Area, 64>, area: &Area, from: u32, to: u32) ->
 }
 
 /// Ends the area at `place` at `end`.
-pub(crate) fn end_at(areas: &mut ArrayVec<Area, 64>, place: usize, end: u32)
+pub(crate) fn end_at(areas: &mut ArrayVec<Area, MOST_AREAS>, place: usize, end: u32)
     requires { place < length areas.old.items }
     ensures { (d : Areas) → areas.new.items ≡ slice_set areas.old.items place (record (slice_index_or areas.old.items place d) { end = end }) }
 {

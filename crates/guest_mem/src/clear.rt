@@ -2,10 +2,13 @@
 ghost use Rattle.std.specs.Prelude.{[], ◌∷◌, ◌≡◌, ℕ, ◌+◌, ◌*◌, ◌/◌, ◌%◌, ◌^◌, ◌<◌, ◌≤◌, ◌&&◌, not, true, false, length, if◌then◌else◌, slice_index, slice_index_or};
 ghost use Rattle.std.specs.List.{All};
 ghost use Rattle.guest_model.specs.Maps.{is_in_range};
-ghost use Rattle.guest_mem.specs.Sound.{IsWhole, is_cut, no_rights};
+ghost use Rattle.page_store.specs.Contents.{count_marked};
+ghost use Rattle.guest_mem.specs.Sound.{is_cut, no_rights};
+ghost use Rattle.guest_model.specs.Valid.{IsWhole};
 
 use crate::rights::{NO_RIGHTS, Rights, fill};
 use guest_model::Area;
+use guest_model::platform::PAGE_SIZE;
 use page_store::Pages;
 
 /// Gives back the pages of the areas that are in the range, and takes their rights.
@@ -17,17 +20,19 @@ pub(crate) fn clear_range(
     rights: &mut Vec<Rights>,
 )
     requires whole { All IsWhole areas.now }
-    requires from { from % 4096 ≡ 0 }
-    requires to { to % 4096 ≡ 0 }
+    requires from { from % PAGE_SIZE ≡ 0 }
+    requires to { to % PAGE_SIZE ≡ 0 }
     requires bytes { length pages.old.flat_bytes ≡ 2 ^ 32 }
     requires table { length rights.old.items ≡ 2 ^ 20 }
     ensures bytes { (q : ℕ) → slice_index pages.new.flat_bytes q ≡ (if is_cut from to areas.now q then 0 else slice_index pages.old.flat_bytes q) }
     ensures bytes_len { length pages.new.flat_bytes ≡ 2 ^ 32 }
-    ensures framed { (page : ℕ) → slice_index_or pages.new.framed page false ≡ (not (is_cut from to areas.now (4096 * page)) && slice_index_or pages.old.framed page false) }
+    ensures framed { (page : ℕ) → slice_index_or pages.new.framed page false ≡ (not (is_cut from to areas.now (PAGE_SIZE * page)) && slice_index_or pages.old.framed page false) }
     ensures framed_len { length pages.new.framed ≡ length pages.old.framed }
     ensures touched { pages.new.touched ≡ pages.old.touched }
     ensures frames { pages.new.frames ≡ pages.old.frames }
-    ensures rights { (page : ℕ) → slice_index_or rights.new.items page no_rights ≡ (if is_cut from to areas.now (4096 * page) then no_rights else slice_index_or rights.old.items page no_rights) }
+    ensures adds_up { count_marked pages.old.framed + pages.old.free ≡ pages.old.frames
+        → count_marked pages.new.framed + pages.new.free ≡ pages.new.frames }
+    ensures rights { (page : ℕ) → slice_index_or rights.new.items page no_rights ≡ (if is_cut from to areas.now (PAGE_SIZE * page) then no_rights else slice_index_or rights.old.items page no_rights) }
     ensures table_len { length rights.new.items ≡ 2 ^ 20 }
 {
     for area in areas {
@@ -38,21 +43,23 @@ pub(crate) fn clear_range(
 /// The same for one area.
 fn clear_part(area: &Area, from: u32, to: u32, pages: &mut Pages, rights: &mut Vec<Rights>)
     requires whole { IsWhole area.now }
-    requires from { from % 4096 ≡ 0 }
-    requires to { to % 4096 ≡ 0 }
+    requires from { from % PAGE_SIZE ≡ 0 }
+    requires to { to % PAGE_SIZE ≡ 0 }
     requires bytes { length pages.old.flat_bytes ≡ 2 ^ 32 }
     requires table { length rights.old.items ≡ 2 ^ 20 }
     ensures bytes { (q : ℕ) → slice_index pages.new.flat_bytes q ≡ (if is_cut from to (area.now ∷ []) q then 0 else slice_index pages.old.flat_bytes q) }
     ensures bytes_len { length pages.new.flat_bytes ≡ 2 ^ 32 }
-    ensures framed { (page : ℕ) → slice_index_or pages.new.framed page false ≡ (not (is_cut from to (area.now ∷ []) (4096 * page)) && slice_index_or pages.old.framed page false) }
+    ensures framed { (page : ℕ) → slice_index_or pages.new.framed page false ≡ (not (is_cut from to (area.now ∷ []) (PAGE_SIZE * page)) && slice_index_or pages.old.framed page false) }
     ensures framed_len { length pages.new.framed ≡ length pages.old.framed }
     ensures touched { pages.new.touched ≡ pages.old.touched }
     ensures frames { pages.new.frames ≡ pages.old.frames }
-    ensures rights { (page : ℕ) → slice_index_or rights.new.items page no_rights ≡ (if is_cut from to (area.now ∷ []) (4096 * page) then no_rights else slice_index_or rights.old.items page no_rights) }
+    ensures adds_up { count_marked pages.old.framed + pages.old.free ≡ pages.old.frames
+        → count_marked pages.new.framed + pages.new.free ≡ pages.new.frames }
+    ensures rights { (page : ℕ) → slice_index_or rights.new.items page no_rights ≡ (if is_cut from to (area.now ∷ []) (PAGE_SIZE * page) then no_rights else slice_index_or rights.old.items page no_rights) }
     ensures table_len { length rights.new.items ≡ 2 ^ 20 }
 {
-    let first = area.start.max(from) / 4096;
-    let end = (area.end.min(to) / 4096).max(first);
+    let first = area.start.max(from) / PAGE_SIZE;
+    let end = (area.end.min(to) / PAGE_SIZE).max(first);
     release_pages(pages, first, end);
     fill(rights, first, end, NO_RIGHTS);
 }
@@ -62,12 +69,14 @@ fn release_pages(pages: &mut Pages, from: u32, to: u32)
     requires order { from ≤ to }
     requires within { to ≤ 2 ^ 20 }
     requires bytes { length pages.old.flat_bytes ≡ 2 ^ 32 }
-    ensures bytes { (q : ℕ) → slice_index pages.new.flat_bytes q ≡ (if is_in_range from to (q / 4096) then 0 else slice_index pages.old.flat_bytes q) }
+    ensures bytes { (q : ℕ) → slice_index pages.new.flat_bytes q ≡ (if is_in_range from to (q / PAGE_SIZE) then 0 else slice_index pages.old.flat_bytes q) }
     ensures bytes_len { length pages.new.flat_bytes ≡ 2 ^ 32 }
     ensures framed { (page : ℕ) → slice_index_or pages.new.framed page false ≡ (not (is_in_range from to page) && slice_index_or pages.old.framed page false) }
     ensures framed_len { length pages.new.framed ≡ length pages.old.framed }
     ensures touched { pages.new.touched ≡ pages.old.touched }
     ensures frames { pages.new.frames ≡ pages.old.frames }
+    ensures adds_up { count_marked pages.old.framed + pages.old.free ≡ pages.old.frames
+        → count_marked pages.new.framed + pages.new.free ≡ pages.new.frames }
 {
     for page in from..to {
         pages.release(page);

@@ -1,7 +1,10 @@
 //! Laws of the frames that stores take. None of these functions does anything: each carries a law.
-ghost use Rattle.std.specs.Prelude.{ℕ, ◌+◌, ◌*◌, ◌/◌, ◌%◌, ◌≤◌, Bool, List};
-ghost use Rattle.guest_mem.specs.Frames.{frames_for};
-ghost use Rattle.guest_mem.specs.Memory.{Memory, FramesSuffice};
+ghost use Rattle.std.specs.Prelude.{ℕ, ◌+◌, ◌*◌, ◌/◌, ◌%◌, ◌≡◌, ◌≤◌, Bool, List};
+ghost use Rattle.guest_model.specs.Effect.{Next, effect_of};
+ghost use Rattle.guest_model.specs.Machine.{Machine};
+ghost use Rattle.guest_model.specs.Range.{Range};
+ghost use Rattle.guest_model.specs.Written.{written_by};
+ghost use Rattle.guest_mem.specs.Frames.{Frames, HasAllFrames, frames_for};
 
 /// Bytes that lie in `k` pages take at most `k` frames.
 pub fn frames_of_pages()
@@ -13,12 +16,13 @@ pub fn frames_of_bytes()
     ensures { (framed : List Bool) (a n : ℕ) → frames_for framed a n ≤ (n + 8190) / 4096 }
 {}
 
-/// Two free frames suffice for the store of an instruction.
-pub fn frames_of_store()
-    ensures { (m : Memory) (a n : ℕ) → n ≤ 4 → 2 ≤ m.free → FramesSuffice m a n }
+/// Two free frames suffice for every instruction.
+pub fn frames_of_instructions()
+    ensures { (f : Frames) (m next : Machine) (stored : List Range) → effect_of m ≡ Next next stored
+        → 2 ≤ f.free → HasAllFrames f (written_by m) }
 {}
 
-/// 17 free frames suffice for a put of at most 65,536 bytes.
-pub fn frames_of_put()
-    ensures { (m : Memory) (a n : ℕ) → n ≤ 65536 → 17 ≤ m.free → FramesSuffice m a n }
+/// 31 free frames suffice for every step.
+pub fn frames_of_steps()
+    ensures { (f : Frames) (m : Machine) → 31 ≤ f.free → HasAllFrames f (written_by m) }
 {}

@@ -1,19 +1,23 @@
 // A guest's memory.
-ghost use Rattle.std.specs.Prelude.{[], ◌∷◌, ◌++◌, ◌≡◌, ℕ, ◌+◌, ◌-◌, ◌*◌, ◌/◌, ◌%◌, ◌^◌, ◌<◌, ◌≤◌, ◌⊎◌, true, false, length, IfOk, MatchResult, OnOk, OnErr, Some, None};
+ghost use Rattle.std.specs.Prelude.{[], ◌∷◌, ◌++◌, ◌≡◌, ◌≢◌, ℕ, ◌+◌, ◌-◌, ◌*◌, ◌/◌, ◌%◌, ◌^◌, ◌<◌, ◌≤◌, ◌⊎◌, true, false, length, IfOk, MatchResult, OnOk, OnErr, Some, None};
 ghost use Rattle.guest_model.specs.Areas.{is_mapped, is_permitted, all_permitted, is_range_permitted, holds, wrap};
 ghost use Rattle.guest_model.specs.Bytes.{byte_at, bytes_at, put_bytes, number_of as number_of_bytes};
 ghost use Rattle.guest_model.specs.Space.{HasBytesOfAreas, read_number, write_number, with_bytes};
-ghost use Rattle.guest_model.specs.Added.{empty_space, with_area, page_count as pages_of, size_of};
-ghost use Rattle.guest_model.specs.Maps.{grow_of, grown, growth, map_of, map_area, mapped, unmap_of, without_range, cut_areas as areas_cut};
-ghost use Rattle.page_store.specs.Contents.{count_marked, unmarked};
-ghost use Rattle.guest_mem.specs.Frames.{frames_for, marked_for, marked_in};
-ghost use Rattle.guest_mem.specs.Memory.{FramesSuffice, HasFrames, HasFramesWhereWritten, IsApart};
+ghost use Rattle.guest_model.specs.Added.{empty_space, with_area, mapped_pages, area_size};
+ghost use Rattle.guest_model.specs.Maps.{grow_of, grown, growth, map_of, map_area, mapped, unmap_of, without_range, cut_areas};
+ghost use Rattle.page_store.specs.Contents.{count_marked};
+ghost use Rattle.guest_model.specs.Range.{range};
+ghost use Rattle.guest_mem.specs.Frames.{HasAllFrames, TakesFrames, GivesFramesBack};
+ghost use Rattle.guest_mem.specs.Memory.{HasFramesWhereWritten, IsApart, free_frames};
 
-use crate::areas::{MAPS, behind_heap, cut_areas, end_at, page_count, place_of, rounded_up};
+use crate::areas::{behind_heap, cut_areas, end_at, mapped_pages, place_of, rounded_up};
 use crate::clear::clear_range;
 use crate::number::{low_bytes, number_of};
 use crate::rights::{Rights, fill, no_table};
 use arrayvec::ArrayVec;
+use guest_model::platform::{
+    EINVAL, ENOMEM, HEAP_START, MAPS_END, MAPS_START, MOST_AREAS, MOST_PAGES, PAGE_SIZE, failure,
+};
 use guest_model::{Access, Area};
 use page_store::Pages;
 use std::alloc::{AllocError, Global};
@@ -22,18 +26,6 @@ use std::marker::Model;
 /// The pages of 4,096 bytes in an address space of 32 bits.
 const PAGES: usize = 1_048_576;
 
-/// Where maps end; the stack stands from here on.
-const MAPS_END: u64 = 0x7FE0_0000;
-
-/// How many pages may be mapped at once.
-const MOST_PAGES: u64 = 16_384;
-
-/// The error EINVAL, as a call's result.
-const BAD_ARGUMENT: u32 = 0xFFFF_FFEA;
-
-/// The error ENOMEM.
-const NO_ROOM: u32 = 0xFFFF_FFF4;
-
 /// An access that the areas do not permit.
 #[derive(Clone, Copy, PartialEq, Eq, Debug)]
 pub struct Denied;
@@ -41,7 +33,7 @@ pub struct Denied;
 /// A guest's memory. Contracts see it as one flat map of bytes with its areas, and the frames of its pages.
 #[derive(Drop)]
 pub struct Space {
-    areas: ArrayVec<Area, 64>,
+    areas: ArrayVec<Area, MOST_AREAS>,
     heap_break: u32,
     next_map: u32,
     /// For each page, what the areas permit there.
@@ -59,7 +51,10 @@ impl Model for Space {
     ghost use Rattle.guest_mem.specs.Mapped.{space_over};
     ghost use Rattle.guest_mem.specs.Sound.{IsSound};
 
-    ghost view = { λ s. record { space = space_over s.areas.items s.pages.flat_bytes s.heap_break s.next_map; framed = s.pages.framed; touched = s.pages.touched; free = s.pages.free; frames = s.pages.frames } };
+    ghost view = { λ s. record {
+      space = space_over s.areas.items s.pages.flat_bytes s.heap_break s.next_map;
+      frames = record { framed = s.pages.framed; written = s.pages.touched; free = s.pages.free; count = s.pages.frames };
+    } };
 
     ghost invariant = { λ s. IsSound s.areas.items s.rights.items s.pages s.heap_break s.next_map };
 }
@@ -67,15 +62,11 @@ impl Model for Space {
 impl Space {
     /// A space that has the empty heap at `heap` alone, with `frames` free frames.
     pub fn empty(alloc: Global, heap: u32, frames: u32) -> Result<Space, AllocError>
-        requires page { heap % 4096 ≡ 0 }
-        requires low { 0x1000 ≤ heap }
-        requires high { heap ≤ 0x40000000 }
-        requires frames { frames ≤ 16384 }
+        requires page { heap % PAGE_SIZE ≡ 0 }
+        requires low { HEAP_START ≤ heap }
+        requires high { heap ≤ MAPS_START }
         ensures space { IfOk result (λ m. m.space ≡ empty_space heap) }
-        ensures framed { IfOk result (λ m. m.framed ≡ unmarked (2 ^ 20)) }
-        ensures touched { IfOk result (λ m. m.touched ≡ unmarked (2 ^ 20)) }
-        ensures free { IfOk result (λ m. m.free ≡ frames) }
-        ensures frames { IfOk result (λ m. m.frames ≡ frames) }
+        ensures frames { IfOk result (λ m. m.frames ≡ free_frames frames) }
     {
         let pages = Pages::empty(alloc, frames)?;
         let rights = no_table(alloc, PAGES)?;
@@ -90,7 +81,7 @@ impl Space {
         Ok(Space {
             areas,
             heap_break: heap,
-            next_map: MAPS,
+            next_map: MAPS_START,
             rights,
             pages,
         })
@@ -120,8 +111,8 @@ impl Space {
 
     /// How many pages were written since the space was made, also those that are mapped no longer.
     pub fn written(&self) -> u32
-        ensures written { result ≡ count_marked self.now.touched }
-        ensures enough { self.now.frames ≤ self.now.free + result }
+        ensures written { result ≡ count_marked self.now.frames.written }
+        ensures enough { self.now.frames.count ≤ self.now.frames.free + result }
         ensures framed { HasFramesWhereWritten self.now }
     {
         self.pages.written()
@@ -129,8 +120,8 @@ impl Space {
 
     /// How many frames are free.
     pub fn free(&self) -> u32
-        ensures free { result ≡ self.now.free }
-        ensures adds_up { count_marked self.now.framed + result ≡ self.now.frames }
+        ensures free { result ≡ self.now.frames.free }
+        ensures adds_up { count_marked self.now.frames.framed + result ≡ self.now.frames.count }
     {
         self.pages.free()
     }
@@ -184,7 +175,7 @@ impl Space {
         if !self.allows(access, at, size) {
             return Err(Denied);
         }
-        if at % 4096 <= 4096 - size as u32 {
+        if at % PAGE_SIZE <= 4096 - size as u32 {
             return Ok(self.number_in_page(at, size));
         }
         Ok(self.number_across(at, size))
@@ -194,7 +185,7 @@ impl Space {
     #[inline(always)]
     fn number_in_page(&self, at: u32, size: u8) -> u32
         requires size { (size ≡ 1) ⊎ ((size ≡ 2) ⊎ (size ≡ 4)) }
-        requires within { at % 4096 + size ≤ 4096 }
+        requires within { at % PAGE_SIZE + size ≤ 4096 }
         ensures number { result ≡ number_of_bytes (bytes_at self.now.space.bytes at size) }
         ensures fits { result < 2 ^ (8 * size) }
     {
@@ -221,7 +212,7 @@ impl Space {
     /// Whether the bytes of a page are in an area with the permission. An area is whole pages, and ends below the last page.
     fn allows_page(&self, access: Access, page: u32) -> bool
         requires { page < 2 ^ 20 }
-        ensures permitted { (q : ℕ) → q / 4096 ≡ page → result ≡ is_permitted access self.now.space.areas q }
+        ensures permitted { (q : ℕ) → q / PAGE_SIZE ≡ page → result ≡ is_permitted access self.now.space.areas q }
         ensures below { result ≡ true → page < 0xFFFFF }
     {
         self.rights[page as usize].allows(access)
@@ -234,14 +225,14 @@ impl Space {
         ensures permitted { result ≡ all_permitted access self.now.space.areas at size }
         ensures below { result ≡ true → at + size ≤ 2 ^ 32 }
     {
-        if !self.allows_page(access, at / 4096) {
+        if !self.allows_page(access, at / PAGE_SIZE) {
             return false;
         }
-        if at % 4096 <= 4096 - size as u32 {
+        if at % PAGE_SIZE <= 4096 - size as u32 {
             return true;
         }
         let last = at.wrapping_add(size as u32 - 1);
-        self.allows_page(access, last / 4096)
+        self.allows_page(access, last / PAGE_SIZE)
     }
 
     fn allows_range(&self, access: Access, at: u32, len: u32) -> bool
@@ -253,10 +244,10 @@ impl Space {
         }
         let mut from = at as u64;
         while from < end {
-            if !self.allows_page(access, (from / 4096) as u32) {
+            if !self.allows_page(access, (from / PAGE_SIZE as u64) as u32) {
                 return false;
             }
-            from = (from / 4096 + 1) * 4096;
+            from = (from / PAGE_SIZE as u64 + 1) * PAGE_SIZE as u64;
         }
         true
     }
@@ -266,21 +257,18 @@ impl Space {
     #[inline(always)]
     pub fn store(&mut self, at: u32, size: u8, value: u32) -> Result<(), Denied>
         requires size { (size ≡ 1) ⊎ ((size ≡ 2) ⊎ (size ≡ 4)) }
-        requires frames { all_permitted Access.Write self.old.space.areas at size ≡ true → HasFrames self.old at size }
+        requires frames { all_permitted Access.Write self.old.space.areas at size ≡ true
+            → HasAllFrames self.old.frames (range at size ∷ []) }
         ensures space { MatchResult result (λ _. write_number self.old.space at size value ≡ Some self.new.space) (λ _. write_number self.old.space at size value ≡ None) }
-        ensures framed { OnOk result (self.new.framed ≡ marked_for self.old.framed at size) }
-        ensures touched { OnOk result (self.new.touched ≡ marked_for self.old.touched at size) }
-        ensures free { OnOk result (self.new.free + frames_for self.old.framed at size ≡ self.old.free) }
-        ensures frames { self.new.frames ≡ self.old.frames }
+        ensures frames { OnOk result (TakesFrames self.old.frames self.new.frames (range at size ∷ [])) }
         ensures denied { OnErr result (self.new ≡ self.old) }
     {
         if !self.allows(Access::Write, at, size) {
             return Err(Denied);
         }
-        self.lacks_none();
         let bytes = low_bytes(value);
         let part = &bytes[..size as usize];
-        if at % 4096 <= 4096 - size as u32 {
+        if at % PAGE_SIZE <= 4096 - size as u32 {
             self.store_in_page(at, part);
         } else {
             self.store_bytes(at, part);
@@ -291,22 +279,11 @@ impl Space {
     /// Puts the bytes from `at` on.
     pub fn put(&mut self, at: u32, bytes: &[u8])
         requires writable { is_range_permitted Access.Write self.old.space.areas at (length bytes.now) ≡ true }
-        requires frames { HasFrames self.old at (length bytes.now) }
+        requires frames { HasAllFrames self.old.frames (range at (length bytes.now) ∷ []) }
         ensures space { self.new.space ≡ with_bytes self.old.space (put_bytes self.old.space.bytes at bytes.now) }
-        ensures framed { self.new.framed ≡ marked_for self.old.framed at (length bytes.now) }
-        ensures touched { self.new.touched ≡ marked_for self.old.touched at (length bytes.now) }
-        ensures free { self.new.free + frames_for self.old.framed at (length bytes.now) ≡ self.old.free }
-        ensures frames { self.new.frames ≡ self.old.frames }
+        ensures frames { TakesFrames self.old.frames self.new.frames (range at (length bytes.now) ∷ []) }
     {
-        self.lacks_none();
         self.store_bytes(at, bytes);
-    }
-
-    /// A store in areas has its frames where there is one for each page that can be mapped. It does nothing.
-    fn lacks_none(&self)
-        ensures { (a n : ℕ) → ((i : ℕ) → i < n → is_mapped self.now.space.areas (wrap (a + i)) ≡ true) → HasFrames self.now a n → FramesSuffice self.now a n }
-    {
-        let _free = self.pages.free();
     }
 
     /// Stores bytes that are all in areas, page by page.
@@ -314,17 +291,14 @@ impl Space {
     fn store_bytes(&mut self, at: u32, bytes: &[u8])
         requires end { at + length bytes.now ≤ 2 ^ 32 }
         requires mapped { (i : ℕ) → i < length bytes.now → is_mapped self.old.space.areas (at + i) ≡ true }
-        requires frames { FramesSuffice self.old at (length bytes.now) }
+        requires frames { HasAllFrames self.old.frames (range at (length bytes.now) ∷ []) }
         ensures space { self.new.space ≡ with_bytes self.old.space (put_bytes self.old.space.bytes at bytes.now) }
-        ensures framed { self.new.framed ≡ marked_for self.old.framed at (length bytes.now) }
-        ensures touched { self.new.touched ≡ marked_for self.old.touched at (length bytes.now) }
-        ensures free { self.new.free + frames_for self.old.framed at (length bytes.now) ≡ self.old.free }
-        ensures frames { self.new.frames ≡ self.old.frames }
+        ensures frames { TakesFrames self.old.frames self.new.frames (range at (length bytes.now) ∷ []) }
     {
         let mut done = 0;
         while done < bytes.len() {
             let to = at + done as u32;
-            let part = (bytes.len() - done).min(4096 - (to % 4096) as usize);
+            let part = (bytes.len() - done).min(4096 - (to % PAGE_SIZE) as usize);
             self.store_in_page(to, &bytes[done..done + part]);
             done += part;
         }
@@ -334,14 +308,11 @@ impl Space {
     #[inline(always)]
     fn store_in_page(&mut self, at: u32, bytes: &[u8])
         requires some { 0 < length bytes.now }
-        requires within { at % 4096 + length bytes.now ≤ 4096 }
+        requires within { at % PAGE_SIZE + length bytes.now ≤ 4096 }
         requires mapped { is_mapped self.old.space.areas at ≡ true }
-        requires frames { FramesSuffice self.old at (length bytes.now) }
+        requires frames { HasAllFrames self.old.frames (range at (length bytes.now) ∷ []) }
         ensures space { self.new.space ≡ with_bytes self.old.space (put_bytes self.old.space.bytes at bytes.now) }
-        ensures framed { self.new.framed ≡ marked_for self.old.framed at (length bytes.now) }
-        ensures touched { self.new.touched ≡ marked_for self.old.touched at (length bytes.now) }
-        ensures free { self.new.free + frames_for self.old.framed at (length bytes.now) ≡ self.old.free }
-        ensures frames { self.new.frames ≡ self.old.frames }
+        ensures frames { TakesFrames self.old.frames self.new.frames (range at (length bytes.now) ∷ []) }
     {
         self.pages.write(at, bytes);
     }
@@ -349,55 +320,49 @@ impl Space {
     /// Adds an area that holds the given bytes from `at` on and zeros elsewhere. No frame is used, and no page counts as written.
     /// `Err` where memory is lacking, or where an empty area would stand within the heap.
     pub fn add_area(&mut self, area: Area, at: u32, bytes: &[u8]) -> Result<(), AllocError>
-        requires unwritten { count_marked self.old.touched ≡ 0 }
-        requires start { area.start % 4096 ≡ 0 }
-        requires end { area.end % 4096 ≡ 0 }
+        requires unwritten { count_marked self.old.frames.written ≡ 0 }
+        requires start { area.start % PAGE_SIZE ≡ 0 }
+        requires end { area.end % PAGE_SIZE ≡ 0 }
         requires order { area.start ≤ area.end }
         requires apart { IsApart area self.old.space.areas }
-        requires place { (area.end ≤ self.old.space.heap_break) ⊎ (0x7FE00000 ≤ area.start) }
+        requires place { (area.end ≤ self.old.space.heap_break) ⊎ (MAPS_END ≤ area.start) }
         requires from { area.start ≤ at }
         requires within { at + length bytes.now ≤ area.end }
-        requires areas { length self.old.space.areas < 64 }
-        requires pages { pages_of self.old.space.areas + size_of area / 4096 ≤ 16384 }
+        requires areas { length self.old.space.areas < MOST_AREAS }
+        requires pages { mapped_pages self.old.space.areas + area_size area / PAGE_SIZE ≤ MOST_PAGES }
         ensures space { OnOk result (self.new.space ≡ with_area self.old.space area at bytes.now) }
-        ensures framed { self.new.framed ≡ self.old.framed }
-        ensures touched { self.new.touched ≡ self.old.touched }
-        ensures free { self.new.free ≡ self.old.free }
         ensures frames { self.new.frames ≡ self.old.frames }
         ensures unchanged { OnErr result (self.new ≡ self.old) }
     {
         let place = place_of(&self.areas, &area);
         let behind = behind_heap(&self.areas);
-        if area.end <= MAPS && behind <= place {
+        if area.end <= MAPS_START && behind <= place {
             return Err(AllocError);
         }
         self.pages.place(at, bytes)?;
         self.areas.insert(place, area);
         fill(
             &mut self.rights,
-            area.start / 4096,
-            area.end / 4096,
+            area.start / PAGE_SIZE,
+            area.end / PAGE_SIZE,
             Rights::of(&area),
         );
         Ok(())
     }
 
-    /// The call brk: the heap ends at `to` from now on, where that is no lower than before and at most 0x40000000, and at
+    /// The call brk: the heap ends at `to` from now on, where that is no lower than before and at most MAPS_START, and at
     /// most 16,384 pages are mapped then. New bytes are 0. The result is where the heap ends. No frame is used.
     #[tactic(auto, unfolding(guest_model::specs::Maps::grow_of))]
     pub fn grow_break(&mut self, to: u32) -> u32
         ensures result { result ≡ (grow_of self.old.space to).answer }
         ensures space { self.new.space ≡ (grow_of self.old.space to).space }
-        ensures framed { self.new.framed ≡ self.old.framed }
-        ensures touched { self.new.touched ≡ self.old.touched }
-        ensures free { self.new.free ≡ self.old.free }
         ensures frames { self.new.frames ≡ self.old.frames }
     {
-        if to < self.heap_break || to > MAPS {
+        if to < self.heap_break || to > MAPS_START {
             return self.heap_break;
         }
         let growth = rounded_up(to as u64) - rounded_up(self.heap_break as u64);
-        if page_count(&self.areas) + growth / 4096 > MOST_PAGES {
+        if mapped_pages(&self.areas) + growth / PAGE_SIZE as u64 > MOST_PAGES as u64 {
             return self.heap_break;
         }
         self.extend_heap(to);
@@ -407,12 +372,9 @@ impl Space {
     /// Ends the heap at `to`.
     fn extend_heap(&mut self, to: u32)
         requires order { self.old.space.heap_break ≤ to }
-        requires high { to ≤ 0x40000000 }
-        requires pages { pages_of self.old.space.areas + growth self.old.space to / 4096 ≤ 16384 }
+        requires high { to ≤ MAPS_START }
+        requires pages { mapped_pages self.old.space.areas + growth self.old.space to / PAGE_SIZE ≤ MOST_PAGES }
         ensures space { self.new.space ≡ grown self.old.space to }
-        ensures framed { self.new.framed ≡ self.old.framed }
-        ensures touched { self.new.touched ≡ self.old.touched }
-        ensures free { self.new.free ≡ self.old.free }
         ensures frames { self.new.frames ≡ self.old.frames }
     {
         let place = behind_heap(&self.areas) - 1;
@@ -425,8 +387,8 @@ impl Space {
         end_at(&mut self.areas, place, added.end);
         fill(
             &mut self.rights,
-            added.start / 4096,
-            added.end / 4096,
+            added.start / PAGE_SIZE,
+            added.end / PAGE_SIZE,
             Rights::of(&added),
         );
         self.heap_break = to;
@@ -438,23 +400,20 @@ impl Space {
     pub fn map(&mut self, len: u32, prot: u32, flags: u32) -> u32
         ensures result { result ≡ (map_of self.old.space len prot flags).answer }
         ensures space { self.new.space ≡ (map_of self.old.space len prot flags).space }
-        ensures framed { self.new.framed ≡ self.old.framed }
-        ensures touched { self.new.touched ≡ self.old.touched }
-        ensures free { self.new.free ≡ self.old.free }
         ensures frames { self.new.frames ≡ self.old.frames }
     {
         if len == 0 || flags & 0x33 != 0x22 || prot & 4 != 0 {
-            return BAD_ARGUMENT;
+            return failure(EINVAL);
         }
         let size = rounded_up(len as u64);
-        if self.next_map as u64 + size > MAPS_END {
-            return NO_ROOM;
+        if self.next_map as u64 + size > MAPS_END as u64 {
+            return failure(ENOMEM);
         }
-        if page_count(&self.areas) + size / 4096 > MOST_PAGES {
-            return NO_ROOM;
+        if mapped_pages(&self.areas) + size / PAGE_SIZE as u64 > MOST_PAGES as u64 {
+            return failure(ENOMEM);
         }
         if self.areas.is_full() {
-            return NO_ROOM;
+            return failure(ENOMEM);
         }
         self.add_map(size as u32, prot)
     }
@@ -462,15 +421,12 @@ impl Space {
     /// Adds an area of so many bytes of zeros at the next map address.
     fn add_map(&mut self, size: u32, prot: u32) -> u32
         requires some { 0 < size }
-        requires whole { size % 4096 ≡ 0 }
-        requires end { self.old.space.next_map + size ≤ 0x7FE00000 }
-        requires pages { pages_of self.old.space.areas + size / 4096 ≤ 16384 }
-        requires room { length self.old.space.areas < 64 }
+        requires whole { size % PAGE_SIZE ≡ 0 }
+        requires end { self.old.space.next_map + size ≤ MAPS_END }
+        requires pages { mapped_pages self.old.space.areas + size / PAGE_SIZE ≤ MOST_PAGES }
+        requires room { length self.old.space.areas < MOST_AREAS }
         ensures result { result ≡ self.old.space.next_map }
         ensures space { self.new.space ≡ mapped self.old.space size prot }
-        ensures framed { self.new.framed ≡ self.old.framed }
-        ensures touched { self.new.touched ≡ self.old.touched }
-        ensures free { self.new.free ≡ self.old.free }
         ensures frames { self.new.frames ≡ self.old.frames }
     {
         let start = self.next_map;
@@ -486,8 +442,8 @@ impl Space {
         self.areas.insert(place, area);
         fill(
             &mut self.rights,
-            start / 4096,
-            end / 4096,
+            start / PAGE_SIZE,
+            end / PAGE_SIZE,
             Rights::of(&area),
         );
         self.next_map = end;
@@ -501,72 +457,35 @@ impl Space {
     pub fn unmap(&mut self, at: u32, len: u32) -> u32
         ensures result { result ≡ (unmap_of self.old.space at len).answer }
         ensures space { self.new.space ≡ (unmap_of self.old.space at len).space }
-        ensures framed { self.new.framed ≡ marked_in self.new.space.areas self.old.framed }
-        ensures touched { self.new.touched ≡ self.old.touched }
-        ensures free { count_marked self.new.framed + self.new.free ≡ self.new.frames }
-        ensures frames { self.new.frames ≡ self.old.frames }
+        ensures frames { result ≡ 0 → GivesFramesBack self.new.space.areas self.old.frames self.new.frames }
+        ensures kept { result ≢ 0 → self.new ≡ self.old }
     {
-        self.frames_stand();
-        if at % 4096 != 0 || len == 0 {
-            return BAD_ARGUMENT;
+        if at % PAGE_SIZE != 0 || len == 0 {
+            return failure(EINVAL);
         }
         let end = at as u64 + rounded_up(len as u64);
-        if at < MAPS || end > MAPS_END {
-            return BAD_ARGUMENT;
+        if at < MAPS_START || end > MAPS_END as u64 {
+            return failure(EINVAL);
         }
-        if self.remove_range(at, end as u32) {
-            0
-        } else {
-            NO_ROOM
-        }
-    }
-
-    /// Unmaps the whole pages of a range, unless more than 64 areas would stand.
-    fn remove_range(&mut self, from: u32, to: u32) -> bool
-        requires from { from % 4096 ≡ 0 }
-        requires to { to % 4096 ≡ 0 }
-        requires low { 0x40000000 ≤ from }
-        requires order { from ≤ to }
-        requires high { to ≤ 0x7FE00000 }
-        ensures many { result ≡ false → (64 < length (areas_cut from to self.old.space.areas)) × (self.new.space ≡ self.old.space) }
-        ensures few { result ≡ true → length (areas_cut from to self.old.space.areas) ≤ 64 }
-        ensures space { result ≡ true → self.new.space ≡ without_range self.old.space from to }
-        ensures framed { self.new.framed ≡ marked_in self.new.space.areas self.old.framed }
-        ensures touched { self.new.touched ≡ self.old.touched }
-        ensures free { count_marked self.new.framed + self.new.free ≡ self.new.frames }
-        ensures frames { self.new.frames ≡ self.old.frames }
-    {
-        let left = cut_areas(&self.areas, from, to);
-        let fits = left.is_some();
-        if let Some(areas) = left {
-            self.replace_areas(areas, from, to);
-        }
-        self.frames_stand();
-        fits
+        let Some(left) = cut_areas(&self.areas, at, end as u32) else {
+            return failure(ENOMEM);
+        };
+        self.replace_areas(left, at, end as u32);
+        0
     }
 
     /// Gives the pages of the range back, and has the areas that are left.
-    fn replace_areas(&mut self, left: ArrayVec<Area, 64>, from: u32, to: u32)
-        requires left { left.items ≡ areas_cut from to self.old.space.areas }
-        requires from { from % 4096 ≡ 0 }
-        requires to { to % 4096 ≡ 0 }
-        requires low { 0x40000000 ≤ from }
+    fn replace_areas(&mut self, left: ArrayVec<Area, MOST_AREAS>, from: u32, to: u32)
+        requires left { left.items ≡ cut_areas from to self.old.space.areas }
+        requires from { from % PAGE_SIZE ≡ 0 }
+        requires to { to % PAGE_SIZE ≡ 0 }
+        requires low { MAPS_START ≤ from }
         requires order { from ≤ to }
-        requires high { to ≤ 0x7FE00000 }
+        requires high { to ≤ MAPS_END }
         ensures space { self.new.space ≡ without_range self.old.space from to }
-        ensures framed { self.new.framed ≡ marked_in self.new.space.areas self.old.framed }
-        ensures touched { self.new.touched ≡ self.old.touched }
-        ensures frames { self.new.frames ≡ self.old.frames }
+        ensures frames { GivesFramesBack self.new.space.areas self.old.frames self.new.frames }
     {
         clear_range(&self.areas, from, to, &mut self.pages, &mut self.rights);
         self.areas = left;
-    }
-
-    /// Each frame is that of a mapped page, and the others are free. It does nothing.
-    fn frames_stand(&self)
-        ensures framed { marked_in self.now.space.areas self.now.framed ≡ self.now.framed }
-        ensures adds_up { count_marked self.now.framed + self.now.free ≡ self.now.frames }
-    {
-        let _free = self.pages.free();
     }
 }

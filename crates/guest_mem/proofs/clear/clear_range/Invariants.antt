@@ -1,5 +1,6 @@
-use Rattle.std.proofs.Common.{◌≡◌, ℕ, ◌*◌, ◌^◌, ◌&&◌, false, cond, length, get_or, take}
+use Rattle.std.proofs.Common.{◌≡◌, ℕ, ◌+◌, ◌*◌, ◌^◌, ◌&&◌, false, cond, length, get_or, take}
 use Rattle.std.specs.Prelude.{not}
+use Rattle.page_store.specs.Contents.{count_marked}
 use Rattle.guest_mem.specs.Sound.{is_cut, no_rights}
 use Rattle.guest_mem.proofs.clear.clear_range.Given as goal
 
@@ -11,6 +12,7 @@ invariant-loop-area l = record {
   framed_len : length l.pages.framed ≡ length l.initial.pages.framed;
   touched : l.pages.touched ≡ l.initial.pages.touched;
   frames : l.pages.frames ≡ l.initial.pages.frames;
+  adds_up : count_marked l.initial.pages.framed + l.initial.pages.free ≡ l.initial.pages.frames → count_marked l.pages.framed + l.pages.free ≡ l.pages.frames;
   rights : (page : ℕ) → get_or l.rights.items page no_rights ≡ cond (is_cut l.from l.to (take l.area-index l.areas) (4096 * page)) no_rights (get_or l.initial.rights.items page no_rights);
   table_len : length l.rights.items ≡ 2 ^ 20;
 }

@@ -1,5 +1,6 @@
-use Rattle.std.proofs.Common.{◌≡◌, ℕ, ◌/◌, ◌^◌, ◌&&◌, false, cond, length, get_or}
+use Rattle.std.proofs.Common.{◌≡◌, ℕ, ◌+◌, ◌/◌, ◌^◌, ◌&&◌, false, cond, length, get_or}
 use Rattle.std.specs.Prelude.{not}
+use Rattle.page_store.specs.Contents.{count_marked}
 use Rattle.guest_model.specs.Maps.{is_in_range}
 use Rattle.guest_mem.proofs.clear.release_pages.Given as goal
 
@@ -11,4 +12,5 @@ invariant-loop-page l = record {
   framed_len : length l.pages.framed ≡ length l.initial.pages.framed;
   touched : l.pages.touched ≡ l.initial.pages.touched;
   frames : l.pages.frames ≡ l.initial.pages.frames;
+  adds_up : count_marked l.initial.pages.framed + l.initial.pages.free ≡ l.initial.pages.frames → count_marked l.pages.framed + l.pages.free ≡ l.pages.frames;
 }

@@ -1,7 +1,7 @@
 use Rattle.std.proofs.Common.{◌≡◌, ◌<◌, ◌≤◌, ◌∙◌, ap, length, arith}
 use Rattle.std.specs.List.{insert, position_or_len}
-use Rattle.guest_model.specs.Added.{comes_before, page_count}
-use Rattle.guest_model.specs.Maps.{maps_start}
+use Rattle.guest_model.specs.Added.{comes_before, mapped_pages}
+use Rattle.guest_model.specs.declared.platform.TheConstants.{MAPS_START}
 use Rattle.page_store.proofs.Marks.{none_marked}
 use Rattle.page_store.specs.Contents.{count_marked}
 use Rattle.guest_mem.proofs.Added.{IsAdded, sound_added, space_added}
@@ -14,19 +14,19 @@ added c =
       whole = record { start = c.requires.start; end = c.requires.end; order = c.requires.order; fits = omega arith };
       apart = rw (ap (λ m. m.space.areas) c.self.view_is) c.requires.apart;
       place = rw (ap (λ m. m.space.heap_break) c.self.view_is) c.requires.place;
-      few = omega (arith, c.requires.pages, ap (λ m. page_count m.space.areas) c.self.view_is);
+      few = omega (arith, c.requires.pages, ap (λ m. mapped_pages m.space.areas) c.self.view_is);
     } in
-    let before : c.args.area.end ≤ maps_start → c.place_of-place.result < c.behind_heap-behind.result = λ le. grind (arith, c.else-area-le-MAPS.either) in
+    let before : c.args.area.end ≤ MAPS_START → c.place_of-place.result < c.behind_heap-behind.result = λ le. grind (arith, c.else-area-le-MAPS_START.either) in
     added_new c.args.area c.self.inside.areas.items c.self.inside.rights.items c.self.inside.pages _ _ c.place_of-place.result c.behind_heap-behind.result c.self.invariant new
     (rw c.deref-2.ensures.0 at c.behind_heap-behind.ensures.last) (omega (arith, c.behind_heap-behind.ensures.within, ap length c.deref-2.ensures.0)) before
 
 pub invariant_of-self-2 : goal.invariant_of-self-2
 invariant_of-self-2 c =
-    let unwritten = ap (λ m. count_marked m.touched) c.self.view_is ∙ c.requires.unwritten in
+    let unwritten = ap (λ m. count_marked m.frames.written) c.self.view_is ∙ c.requires.unwritten in
     rw c.insert.ensures.items
     (sound_added c.args.area c.self.inside.areas.items _ c.self.inside.rights.items _ c.self.inside.pages _ _ _ _ _ c.args.at c.args.bytes.now c.of.result
     c.self.invariant (added c) (record { from = c.requires.from; within = c.requires.within }) (λ page _. none_marked c.self.inside.pages.touched unwritten page)
-    c.in_ok-place.ensures.bytes c.in_ok-place.ensures.len c.place.ensures.framed c.place.ensures.touched c.of.ensures c.fill.ensures.len c.fill.ensures.rights)
+    c.in_ok-place.ensures.bytes c.in_ok-place.ensures.len c.place.ensures.framed c.place.ensures.touched c.place.ensures.free c.place.ensures.frames c.of.ensures c.fill.ensures.len c.fill.ensures.rights)
 
 pub returns-clause-space : goal.returns-clause-space
 returns-clause-space c =

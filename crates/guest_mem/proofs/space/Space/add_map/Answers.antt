@@ -1,6 +1,6 @@
 use Rattle.std.proofs.Common.{◌≡◌, ◌∙◌, ◌+◌, ◌-◌, ◌/◌, ap, [], refl, arith}
 use Rattle.std.specs.List.{position_or_len}
-use Rattle.guest_model.specs.Added.{comes_before, page_count}
+use Rattle.guest_model.specs.Added.{comes_before, mapped_pages}
 use Rattle.guest_model.specs.Maps.{map_area}
 use Rattle.guest_mem.proofs.Added.{sound_added}
 use Rattle.guest_mem.proofs.Mapping.{IsNewMap, map_added, map_untouched, space_mapped, none_given}
@@ -15,7 +15,7 @@ is_new c =
       some = omega arith;
       page = omega arith;
       within = omega arith;
-      few = let size : c.self.inside.next_map + c.args.size - c.self.inside.next_map ≡ c.args.size = omega arith in omega (arith, ap (λ k. k / 4096) size, c.requires.pages, ap (λ m. page_count m.space.areas) c.self.view_is);
+      few = let size : c.self.inside.next_map + c.args.size - c.self.inside.next_map ≡ c.args.size = omega arith in omega (arith, ap (λ k. k / 4096) size, c.requires.pages, ap (λ m. mapped_pages m.space.areas) c.self.view_is);
     }
 
 pub invariant_of-self : goal.invariant_of-self
@@ -25,7 +25,7 @@ invariant_of-self c =
     (sound_added area c.self.inside.areas.items _ c.self.inside.rights.items _ c.self.inside.pages c.self.inside.pages _ _ _ _ c.self.inside.next_map [] c.of.result
     c.self.invariant (map_added area c.self.inside.areas.items _ c.self.inside.pages _ _ c.place_of-place.result c.self.invariant (is_new c)) (record { from = omega arith; within = omega arith })
     (map_untouched area c.self.inside.areas.items _ c.self.inside.pages _ _ c.self.invariant (is_new c))
-    (none_given c.self.inside.next_map c.self.inside.pages.flat_bytes) c.self.invariant.pages_len refl refl c.of.ensures c.fill.ensures.len c.fill.ensures.rights)
+    (none_given c.self.inside.next_map c.self.inside.pages.flat_bytes) c.self.invariant.pages_len refl refl refl refl c.of.ensures c.fill.ensures.len c.fill.ensures.rights)
 
 pub returns-clause-space : goal.returns-clause-space
 returns-clause-space c =

@@ -1,6 +1,6 @@
 use Rattle.std.proofs.Common.{◌+◌, ◌-◌, ◌/◌, ◌≤◌, ap, [], false, get_or, refl, sym, arith}
 use Rattle.std.specs.List.{IsAfterLastMatch}
-use Rattle.guest_model.specs.Added.{page_count}
+use Rattle.guest_model.specs.Added.{mapped_pages}
 use Rattle.guest_model.specs.Areas.{rounded_up}
 use Rattle.guest_model.specs.Maps.{ends_low}
 use Rattle.guest_model.specs.declared.Area.{Area}
@@ -28,7 +28,7 @@ pub invariant_of-self : goal.invariant_of-self
 invariant_of-self c =
     let heap = heap_seen c.self.inside.areas.items _ _ c.self.inside.pages _ _ c.behind_heap-place.result no_area c.self.invariant c.deref.ensures.0 c.behind_heap-place.ensures.last c.behind_heap-place.ensures.within in
     let order : c.self.inside.heap_break ≤ c.args.to = omega (arith, c.requires.order, ap (λ m. m.space.heap_break) c.self.view_is) in
-    let few : page_count c.self.inside.areas.items + (rounded_up c.args.to - rounded_up c.self.inside.heap_break) / 4096 ≤ 16384 =
+    let few : mapped_pages c.self.inside.areas.items + (rounded_up c.args.to - rounded_up c.self.inside.heap_break) / 4096 ≤ 16384 =
     rw (sym (ap (λ m. m.space.areas) c.self.view_is), sym (ap (λ m. m.space.heap_break) c.self.view_is)) at c.requires.pages in
     let x = get_or c.self.inside.areas.items (c.behind_heap-place.result - 1) no_area in
     rw (c.end_at.ensures no_area, c.rounded_up.ensures)
@@ -36,14 +36,14 @@ invariant_of-self c =
     c.self.invariant (grown_added c.self.inside.areas.items _ c.self.inside.pages _ _ c.args.to c.behind_heap-place.result no_area c.self.invariant heap order c.requires.high few)
     (record { from = omega arith; within = let le = rounded_order c.self.inside.heap_break c.args.to order in let ends = heap.ends in omega arith })
     (gained_untouched x c.self.inside.areas.items _ c.self.inside.pages _ _ c.args.to c.self.invariant heap.ends c.requires.high)
-    (none_given x.end c.self.inside.pages.flat_bytes) c.self.invariant.pages_len refl refl
+    (none_given x.end c.self.inside.pages.flat_bytes) c.self.invariant.pages_len refl refl refl refl
     (rw (c.deref-2.ensures.0, c.rounded_up.ensures) at c.of.ensures) c.fill.ensures.len (rw (c.deref-2.ensures.0, c.rounded_up.ensures) at c.fill.ensures.rights))
 
 pub returns-clause-space : goal.returns-clause-space
 returns-clause-space c =
     let heap = heap_seen c.self.inside.areas.items _ _ c.self.inside.pages _ _ c.behind_heap-place.result no_area c.self.invariant c.deref.ensures.0 c.behind_heap-place.ensures.last c.behind_heap-place.ensures.within in
     let order : c.self.inside.heap_break ≤ c.args.to = omega (arith, c.requires.order, ap (λ m. m.space.heap_break) c.self.view_is) in
-    let few : page_count c.self.inside.areas.items + (rounded_up c.args.to - rounded_up c.self.inside.heap_break) / 4096 ≤ 16384 =
+    let few : mapped_pages c.self.inside.areas.items + (rounded_up c.args.to - rounded_up c.self.inside.heap_break) / 4096 ≤ 16384 =
     rw (sym (ap (λ m. m.space.areas) c.self.view_is), sym (ap (λ m. m.space.heap_break) c.self.view_is)) at c.requires.pages in
     rw (c.end_at.ensures no_area, c.rounded_up.ensures)
     (space_grown c.args.self.now.space c.self.inside.areas.items c.self.inside.pages.flat_bytes _ _ c.args.to c.behind_heap-place.result no_area (ap (λ m. m.space) c.self.view_is) c.self.invariant.rest_zero heap

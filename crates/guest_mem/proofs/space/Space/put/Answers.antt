@@ -1,6 +1,6 @@
 use Rattle.std.proofs.Common.{length}
 use Rattle.guest_model.specs.declared.Access.TheVariants.{Write}
-use Rattle.guest_mem.proofs.Permitted.{range_end, range_mapped, range_below_mapped}
+use Rattle.guest_mem.proofs.Permitted.{range_end, range_below_mapped}
 use Rattle.guest_mem.proofs.space.Space.put.Goals as goal
 
 pub store_bytes-requires-clause-end : goal.store_bytes-requires-clause-end
@@ -8,7 +8,3 @@ store_bytes-requires-clause-end c = range_end Write c.args.self.now.space.areas 
 
 pub store_bytes-requires-clause-mapped : goal.store_bytes-requires-clause-mapped
 store_bytes-requires-clause-mapped c = λ i lt. range_below_mapped Write c.args.self.now.space.areas c.args.at (length c.args.bytes.now) i c.requires.writable lt
-
-pub store_bytes-requires-clause-frames : goal.store_bytes-requires-clause-frames
-store_bytes-requires-clause-frames c =
-    c.lacks_none.ensures c.args.at (length c.args.bytes.now) (range_mapped Write c.args.self.now.space.areas c.args.at (length c.args.bytes.now) c.requires.writable) c.requires.frames

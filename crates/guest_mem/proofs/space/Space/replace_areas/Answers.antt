@@ -14,7 +14,7 @@ invariant_of-self c =
     rw (left c)
     (sound_cut c.self.inside.areas.items c.self.inside.rights.items _ c.self.inside.pages _ _ _ c.args.from c.args.to c.self.invariant range
     (rw c.deref.ensures.0 at c.clear_range.ensures.bytes) c.clear_range.ensures.bytes_len
-    (rw c.deref.ensures.0 at c.clear_range.ensures.framed) c.clear_range.ensures.framed_len c.clear_range.ensures.touched
+    (rw c.deref.ensures.0 at c.clear_range.ensures.framed) c.clear_range.ensures.framed_len c.clear_range.ensures.touched c.clear_range.ensures.adds_up
     (rw c.deref.ensures.0 at c.clear_range.ensures.rights) c.clear_range.ensures.table_len)
 
 pub returns-clause-space : goal.returns-clause-space
@@ -23,9 +23,14 @@ returns-clause-space c =
     (space_cut c.args.self.now.space c.self.inside.areas.items c.self.inside.pages.flat_bytes _ _ _ c.args.from c.args.to (ap (λ m. m.space) c.self.view_is) c.requires.order
     (rw c.deref.ensures.0 at c.clear_range.ensures.bytes))
 
-pub returns-clause-framed : goal.returns-clause-framed
-returns-clause-framed c =
-    rw (left c)
-    (framed_cut c.self.inside.areas.items c.self.inside.rights.items c.self.inside.pages c.clear_range.new.pages _ _ c.args.from c.args.to c.self.invariant c.requires.order
-    (rw c.deref.ensures.0 at c.clear_range.ensures.framed) c.clear_range.ensures.framed_len)
-    ∙ ap (λ m. marked_in c.args.left.items m.framed) c.self.view_is
+pub returns-clause-frames : goal.returns-clause-frames
+returns-clause-frames c =
+    rw (left c, ← c.self.view_is)
+    (record {
+      framed =
+          framed_cut c.self.inside.areas.items c.self.inside.rights.items c.self.inside.pages c.clear_range.new.pages _ _ c.args.from c.args.to c.self.invariant c.requires.order
+          (rw c.deref.ensures.0 at c.clear_range.ensures.framed) c.clear_range.ensures.framed_len;
+      written = c.clear_range.ensures.touched;
+      free = c.clear_range.ensures.adds_up c.self.invariant.adds_up;
+      count = c.clear_range.ensures.frames;
+    })

@@ -13,20 +13,6 @@ pub store_bytes-requires-clause-mapped : goal.store_bytes-requires-clause-mapped
 store_bytes-requires-clause-mapped c = λ i lt.
     below_mapped Write c.args.self.now.space.areas c.args.at c.args.size i (sym c.allows.ensures.permitted ∙ c.if-not-allows.false) (c.allows.ensures.below c.if-not-allows.false) (omega (arith, lt, length-take c.args.size c.low_bytes-bytes.result))
 
-pub store_bytes-requires-clause-frames : goal.store_bytes-requires-clause-frames
-store_bytes-requires-clause-frames c =
-    let len : length (take c.args.size c.low_bytes-bytes.result) ≡ c.args.size = omega (arith, length-take c.args.size c.low_bytes-bytes.result) in
-    let permitted = sym c.allows.ensures.permitted ∙ c.if-not-allows.false in
-    let enough = c.lacks_none.ensures c.args.at c.args.size (all_mapped Write c.args.self.now.space.areas c.args.at c.args.size permitted) (c.requires.frames permitted) in
-    omega (arith, enough, ap (frames_for c.args.self.now.framed c.args.at) len)
-
-pub store_in_page-requires-clause-frames : goal.store_in_page-requires-clause-frames
-store_in_page-requires-clause-frames c =
-    let len : length (take c.args.size c.low_bytes-bytes.result) ≡ c.args.size = omega (arith, length-take c.args.size c.low_bytes-bytes.result) in
-    let permitted = sym c.allows.ensures.permitted ∙ c.if-not-allows.false in
-    let enough = c.lacks_none.ensures c.args.at c.args.size (all_mapped Write c.args.self.now.space.areas c.args.at c.args.size permitted) (c.requires.frames permitted) in
-    omega (arith, enough, ap (frames_for c.args.self.now.framed c.args.at) len)
-
 pub store_in_page-requires-clause-mapped : goal.store_in_page-requires-clause-mapped
 store_in_page-requires-clause-mapped c =
     let same : c.args.at ≡ c.args.at + 0 = omega arith in
