@@ -1,37 +1,63 @@
 -- The frames that a step takes.
-use Rattle.std.proofs.Common.{◌≡◌, ℕ, ◌<◌, refl, ap, sym, subst, ◌∙◌, inl, inr, arith}
-use Rattle.std.specs.Prelude.{Some}
-use Rattle.std.proofs.lemmas.Bool.{cases_eq}
+use Rattle.std.proofs.Common.{◌≡◌, ℕ, ◌+◌, ◌≤◌, Bool, true, List, [], ◌∷◌, refl, ap, sym, subst, ◌∙◌, inl, inr, arith}
+use Rattle.std.specs.Prelude.{◌%◌, ◌==◌, if◌then◌else◌, Option, Some, None}
+use Rattle.rv_isa.specs.Decoded.{decoded}
+use Rattle.rv_isa.specs.Kinds.{ends_block, mem_size}
 use Rattle.rv_isa.specs.Table.{Fields}
-use Rattle.guest_model.specs.Machine.{instruction_at}
-use Rattle.guest_model.specs.Effect.{Effect, address, stored_size}
-use Rattle.guest_mem.specs.Memory.{Memory, TakesFrames}
-use Rattle.guest_mem.specs.Frames.{frames_for, marked_for}
-use Rattle.guest_mem.proofs.Taken.{marked_for-none, frames_for-none}
-use Rattle.rv_machine.specs.Guest.{GuestState, machine}
-use Rattle.rv_machine.specs.Step.{Gives, StepTakesFrames}
-use Rattle.rv_machine.specs.declared.step.Stepped.{Stepped}
-use Rattle.rv_machine.specs.declared.step.Stepped.TheVariants.{Next, Call, Fault}
+use Rattle.guest_model.specs.Areas.{all_permitted}
+use Rattle.guest_model.specs.Effect.{Effect, Next, Call, Fault, address, effect_by, effect_of, goes_on, rs2_value, stored_by, stores, stores_some}
+use Rattle.guest_model.specs.Machine.{Machine, following}
+use Rattle.guest_model.specs.Range.{Range, range}
+use Rattle.guest_model.specs.Space.{Space, read_number, write_number}
+use Rattle.guest_model.specs.Written.{written_by, written_with}
+use Rattle.guest_model.specs.declared.Access.TheVariants.{Execute, Write}
+use Rattle.guest_mem.specs.Frames.{Frames, HasAllFrames, TakesFrames}
+use Rattle.rv_machine.specs.Guest.{GuestState}
+use Rattle.rv_machine.specs.Step.{Gives}
+use Rattle.rv_machine.specs.declared.step.Stepped.TheVariants as stepped
+use Rattle.guest_mem.proofs.Ranges.{has_none, takes_none}
 
--- no bytes are stored, so no frames are taken
-takes_none : (old new : Memory) (a n : ℕ) → n ≡ 0 → new ≡ old → TakesFrames old new a n
-takes_none old new a n none same = record {
-  framed = ap (λ m. m.framed) same ∙ sym (ap (marked_for old.framed a) none ∙ marked_for-none old.framed a);
-  touched = ap (λ m. m.touched) same ∙ sym (ap (marked_for old.touched a) none ∙ marked_for-none old.touched a);
-  free = omega (arith, ap (λ (m : Memory). m.free) same, ap (frames_for old.framed a) none, frames_for-none old.framed a);
-  frames = ap (λ m. m.frames) same;
-}
+-- what an instruction stores is written by its step
+has_stored : (f : Frames) (m : Machine) (effect : Effect) → HasAllFrames f (written_with m effect) → HasAllFrames f (stored_by effect)
+has_stored f m (Next next stored) has = has
+has_stored f m Call has = has_none f
+has_stored f m (Fault kind) has = has_none f
 
--- an instruction took its frames if it took them where it is a store, and left the memory where it is none
-pub takes_frames : (effect : Effect) (stepped : Stepped) (old new : GuestState) (i : Fields) → instruction_at (machine old) ≡ Some i → Gives effect stepped old new
-    → (stored_size i.op ≡ 0 → new.memory ≡ old.memory) → (0 < stored_size i.op → stepped ≡ Next → TakesFrames old.memory new.memory (address (machine old) i) (stored_size i.op))
-    → StepTakesFrames stepped old new
-takes_frames effect Next old new i there gives kept taken = λ j at.
-    let same : i ≡ j = (cc) in
-    subst (λ k. TakesFrames old.memory new.memory (address (machine old) k) (stored_size k.op)) same
-    (elim (cases_eq (stored_size i.op) 0) [
-      | inl none ↦ takes_none old.memory new.memory (address (machine old) i) (stored_size i.op) none (kept none)
-      | inr some ↦ taken (omega arith) refl
-    ])
-takes_frames effect Call old new i there gives kept taken = gives.1
-takes_frames effect (Fault kind) old new i there gives kept taken = gives.1
+pub has_for_effect : (f : Frames) (m : Machine) (effect : Effect) → effect_of m ≡ effect → HasAllFrames f (written_by m) → HasAllFrames f (stored_by effect)
+unfolding written_by
+has_for_effect f m effect is has = has_stored f m effect (subst (λ (e : Effect). HasAllFrames f (written_with m e)) is has)
+
+-- a store that is permitted stores in its range
+pub stored_where_permitted : (m : Machine) (i : Fields) → all_permitted Write m.space.areas (address m i) (mem_size i.op) ≡ true → stored_by (stores m i) ≡ range (address m i) (mem_size i.op) ∷ []
+unfolding write_number
+stored_where_permitted m i permitted = rw permitted refl
+
+-- an instruction that stored nothing completed
+pub completes : (old new : GuestState) (next : Machine) → new.machine ≡ next → new.frames ≡ old.frames → Gives (goes_on next) stepped.Next old new
+completes old new next is same = (ap (λ (m : Machine). Next m []) (sym is), takes_none old.frames new.frames same)
+
+-- one that goes where the next instruction is, if that is a multiple of 4
+pub completes_at : (old new : GuestState) (next : Machine) (to kind : ℕ) → to % 4 ≡ 0 → new.machine ≡ next → new.frames ≡ old.frames → Gives (if to % 4 == 0 then goes_on next else Fault kind) stepped.Next old new
+completes_at old new next to kind whole is same = rw whole (completes old new next is same)
+
+-- a store that is permitted
+pub stores_at : (old new : GuestState) (i : Fields) (a n v : ℕ) (s : Space) → a ≡ address old.machine i → n ≡ mem_size i.op → v ≡ rs2_value old.machine i
+    → write_number old.machine.space a n v ≡ Some s → new.machine ≡ record old.machine { pc = following old.machine; space = s; fresh = ends_block i.op }
+    → TakesFrames old.frames new.frames (range a n ∷ []) → Gives (stores old.machine i) stepped.Next old new
+stores_at old new i a n v s at size value written is takes =
+    let there : write_number old.machine.space (address old.machine i) (mem_size i.op) (rs2_value old.machine i) ≡ Some s =
+    rw (← at, ← size, ← value) written in
+    let ranges : range a n ∷ [] ≡ range (address old.machine i) (mem_size i.op) ∷ [] = cc in
+    rw there (rw is refl, subst (TakesFrames old.frames new.frames) ranges takes)
+
+-- the effect of an instruction that was fetched
+pub effect_found : (m : Machine) (word : ℕ) (i : Fields) → read_number Execute m.space m.pc 4 ≡ Some word → decoded word ≡ Some i → effect_of m ≡ effect_by i.op m i
+unfolding effect_of
+effect_found m word i fetched known = rw (fetched, known) refl
+
+pub has_for_store : (g : GuestState) (i : Fields) (a n : ℕ) → a ≡ address g.machine i → n ≡ mem_size i.op → HasAllFrames g.frames (stored_by (stores g.machine i))
+    → all_permitted Write g.machine.space.areas a n ≡ true → HasAllFrames g.frames (range a n ∷ [])
+has_for_store g i a n at size has permitted =
+    let here : all_permitted Write g.machine.space.areas (address g.machine i) (mem_size i.op) ≡ true = rw (← at, ← size) permitted in
+    let ranges : stored_by (stores g.machine i) ≡ range a n ∷ [] = rw (at, size) (stored_where_permitted g.machine i here) in
+    subst (HasAllFrames g.frames) ranges has

@@ -7,7 +7,7 @@ use Rattle.std.proofs.lemmas.List.{take_all, map_more, get_or-map, length-map, g
 use Rattle.std.proofs.lemmas.List.Sums.{fold_more, fold_push, sum_by_more, sum_by_more_le, sum_by-take-le}
 use Rattle.elf_load.specs.Image.{SegmentFields, ImageFields, IsImage, IsSegment, first_page_of, last_page_of, pages_of, is_in_code}
 use Rattle.guest_model.specs.Space.{Space}
-use Rattle.guest_model.specs.Added.{empty_space, with_area, page_count, size_of}
+use Rattle.guest_model.specs.Added.{empty_space, with_area, mapped_pages, area_size}
 use Rattle.guest_model.specs.declared.Area.{Area}
 use Rattle.guest_mem.specs.Memory.{IsApart}
 use Rattle.guest_mem.proofs.Ascending.{Ascending, ascending-empty, ascending-added, apart_behind}
@@ -17,7 +17,7 @@ use Rattle.rv_machine.specs.Load.{area_of, with_segment, first_break, segments_s
 record IsAreaOf (s : SegmentFields) : Type 0 where
   pub first : (area_of s).start ≡ 4096 * first_page_of s
   pub last : (area_of s).end ≡ 4096 * (last_page_of s + 1)
-  pub pages : size_of (area_of s) / 4096 ≡ pages_of s
+  pub pages : area_size (area_of s) / 4096 ≡ pages_of s
   pub order : (area_of s).start ≤ (area_of s).end
   pub high : (area_of s).end ≤ 0x40000000
   pub low : 0x2000 ≤ (area_of s).end
@@ -139,7 +139,7 @@ ascending_next : (xs : List SegmentFields) (i : ℕ) → All IsSegment xs → Al
 ascending_next xs i each apart lt known =
     let here = area_is (get_or xs i no_segment) (each i no_segment lt) in
     let next = get_or xs i no_segment in
-    ascending-same (space_of xs (i + 1)) (area_of next).end (i + 1 + 1) (sum_by pages_of (take i xs) + size_of (area_of next) / 4096) (first_break xs)
+    ascending-same (space_of xs (i + 1)) (area_of next).end (i + 1 + 1) (sum_by pages_of (take i xs) + area_size (area_of next) / 4096) (first_break xs)
     (first_break (take (i + 1) xs)) (i + 1 + 1) (sum_by pages_of (take (i + 1) xs))
     (ascending-added (space_of xs i) (space_of xs (i + 1)) (area_of next) next.start next.bytes (first_break (take i xs)) (i + 1) (sum_by pages_of (take i xs)) (first_break xs)
     (space_more xs i lt) known (break_before xs i no_segment each apart lt) here.order)
@@ -164,7 +164,7 @@ pub record IsPlaced (x : Area) (m : Space) : Type 0 where
   pub apart : IsApart x m.areas
   pub place : (x.end ≤ m.heap_break) ⊎ (0x7FE00000 ≤ x.start)
   pub areas : length m.areas < 64
-  pub pages : page_count m.areas + size_of x / 4096 ≤ 16384
+  pub pages : mapped_pages m.areas + area_size x / 4096 ≤ 16384
 
 pub placed : (image : ImageFields) (i : ℕ) (s : SegmentFields) (x : Area) (m : Space) → IsImage image
     → i < length image.segments → s ≡ get_or image.segments i s → x ≡ area_of s → m ≡ space_of image.segments i → IsPlaced x m
@@ -184,7 +184,7 @@ placed image i s x m h lt is area e =
       apart = apart_behind m x (first_break (take i xs)) (i + 1) (sum_by pages_of (take i xs)) (first_break xs) known (omega (arith, ap (λ (y : Area). y.start) same));
       place = inl (omega (arith, end_at_most xs i s lt, ap (λ (y : Area). y.end) same));
       areas = omega arith;
-      pages = omega (arith, ap (λ (y : Area). size_of y / 4096) same, sum_by_more_le pages_of xs i s lt);
+      pages = omega (arith, ap (λ (y : Area). area_size y / 4096) same, sum_by_more_le pages_of xs i s lt);
     }
 
 -- the same for the stack's area, behind all segments

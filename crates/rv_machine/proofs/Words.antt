@@ -7,7 +7,8 @@ use Rattle.elf_load.specs.Image.{ImageFields}
 use Rattle.guest_model.specs.Added.{with_area}
 use Rattle.guest_model.specs.Bytes.{low_bytes}
 use Rattle.guest_model.specs.Space.{Space}
-use Rattle.rv_machine.specs.Load.{addresses, auxiliary_vector, first_stack, machine_of, segments_space, stack_area, most_strings, padding_size, random_bytes, stack_pointer_of, stack_words, strings_at, strings_size, with_zero}
+use Rattle.rv_machine.specs.Load.{addresses, auxiliary_vector, first_stack, machine_of, segments_space, stack_area, padding_size, random_bytes, stack_pointer_of, stack_words, strings_at, strings_size, with_zero}
+use Rattle.guest_model.specs.declared.platform.TheConstants.{MOST_STRINGS}
 
 -- there are at least as many bytes as strings
 pub count-le-size : (xs : List (List ℕ)) → length xs ≤ strings_size xs
@@ -47,7 +48,7 @@ length-low_bytes : (words : List ℕ) → length (flat_map (low_bytes 4) words) 
 length-low_bytes [] = refl
 length-low_bytes (w ∷ ws) = let rest = length-low_bytes ws in omega (arith, rest)
 
-words_fit : (args : List (List ℕ)) → strings_size args ≤ most_strings → stack_pointer_of args + 4 * (length args + 17) ≤ strings_at args
+words_fit : (args : List (List ℕ)) → strings_size args ≤ MOST_STRINGS → stack_pointer_of args + 4 * (length args + 17) ≤ strings_at args
 words_fit args few = omega (arith, count-le-size args)
 
 -- the length of one of the strings
@@ -69,7 +70,7 @@ words_whole image args count i strings all le at =
 
 -- the bytes of a first stack, piece by piece
 pub stack_whole : (image : ImageFields) (args : List (List ℕ)) (strings pointer size : ℕ) (words put resized : List ℕ)
-    → strings_size args ≤ most_strings → strings ≡ strings_at args → pointer ≡ stack_pointer_of args
+    → strings_size args ≤ MOST_STRINGS → strings ≡ strings_at args → pointer ≡ stack_pointer_of args
     → words ≡ stack_words image args → put ≡ flat_map (low_bytes 4) words → size ≡ length put
     → resized ≡ take (strings - pointer) put ++ replicate (strings - pointer - size) 0
     → (resized ++ flat_map with_zero args) ++ random_bytes ≡ first_stack image args
@@ -91,7 +92,7 @@ length-strings (x ∷ xs) =
     omega (arith, length-strings xs, length-append (with_zero x) (flat_map with_zero xs), length-append x (0 ∷ []), sum_by-cons (λ (a : List ℕ). length a + 1) x xs)
 
 -- the bytes reach to the end of the stack
-pub length-stack : (image : ImageFields) (args : List (List ℕ)) → strings_size args ≤ most_strings → stack_pointer_of args + length (first_stack image args) ≡ 0x7FFFF000
+pub length-stack : (image : ImageFields) (args : List (List ℕ)) → strings_size args ≤ MOST_STRINGS → stack_pointer_of args + length (first_stack image args) ≡ 0x7FFFF000
 unfolding first_stack
 length-stack image args few =
     let zero_byte : ℕ = 0 in

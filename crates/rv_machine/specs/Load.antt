@@ -10,8 +10,9 @@ use Rattle.guest_model.specs.Space.{Space}
 use Rattle.guest_model.specs.Added.{empty_space, with_area}
 use Rattle.guest_model.specs.Machine.{Machine}
 use Rattle.guest_model.specs.declared.Area.{Area}
-use Rattle.guest_mem.specs.Memory.{HasFreeFrames}
-use Rattle.rv_machine.specs.Guest.{GuestState, machine}
+use Rattle.guest_model.specs.declared.platform.TheConstants.{MOST_STRINGS, PAGE_SIZE, RANDOM_SIZE, STACK_END, STACK_START}
+use Rattle.guest_mem.specs.Memory.{free_frames}
+use Rattle.rv_machine.specs.Guest.{GuestState}
 use Rattle.rv_machine.specs.declared.load.LoadFault.{LoadFault}
 use Rattle.rv_machine.specs.declared.load.LoadFault.TheVariants.{ArgsTooLong, NoMemory}
 
@@ -39,16 +40,12 @@ with_zero string = string ++ 0 ∷ []
 abbrev pub strings_size : List (List ℕ) → ℕ
 strings_size args = sum_by (λ a. length a + 1) args
 
--- the most bytes that they may be
-abbrev pub most_strings : ℕ
-most_strings = 65536
-
 -- behind them lie the 16 bytes of AT_RANDOM, here 0 to 15
 abbrev pub random_at : ℕ
-random_at = 0x7FFFEFF0
+random_at = STACK_END - RANDOM_SIZE
 
 abbrev pub random_bytes : List ℕ
-random_bytes = range_with_len 0 16
+random_bytes = range_with_len 0 RANDOM_SIZE
 
 abbrev pub strings_at : List (List ℕ) → ℕ
 strings_at args = random_at - strings_size args
@@ -64,7 +61,7 @@ auxiliary_vector image =
     3 ∷ image.phdr  -- AT_PHDR
     ∷ 4 ∷ 32  -- AT_PHENT
     ∷ 5 ∷ image.phnum  -- AT_PHNUM
-    ∷ 6 ∷ 4096  -- AT_PAGESZ
+    ∷ 6 ∷ PAGE_SIZE  -- AT_PAGESZ
     ∷ 9 ∷ image.entry  -- AT_ENTRY
     ∷ 25 ∷ random_at  -- AT_RANDOM
     ∷ 0 ∷ 0  -- AT_NULL
@@ -89,7 +86,7 @@ unfoldable pub first_stack : ImageFields → List (List ℕ) → List ℕ
 first_stack image args = flat_map (low_bytes 4) (stack_words image args) ++ (replicate (padding_size args) 0 ++ (flat_map with_zero args ++ random_bytes))
 
 abbrev pub stack_area : Area
-stack_area = record { start = 0x7FEFF000; end = 0x7FFFF000; read = true; write = true; execute = false }
+stack_area = record { start = STACK_START; end = STACK_END; read = true; write = true; execute = false }
 
 -- the registers at position 0: x2 is the stack pointer, the others are 0
 abbrev pub first_registers : List (List ℕ) → List ℕ
@@ -104,8 +101,8 @@ machine_of image args = record {
 }
 
 -- what loading answers: the guest at position 0 with so many free frames, or the number of bytes of the strings, which
--- stands still at 2^64 - 1, where they are too many
+-- stands still at 2^64 - 1, where they are too many; memory is taken only where they are not
 abbrev pub LoadGives : ImageFields → List (List ℕ) → ℕ → Result GuestState LoadFault → Type 0
-LoadGives image args frames (Ok guest) = (strings_size args ≤ most_strings) × (machine guest ≡ machine_of image args) × HasFreeFrames guest.memory frames
-LoadGives image args frames (Err (ArgsTooLong bytes)) = (most_strings < strings_size args) × (bytes ≡ min (strings_size args) (2 ^ 64 - 1))
-LoadGives image args frames (Err NoMemory) = Unit {0}
+LoadGives image args frames (Ok guest) = (strings_size args ≤ MOST_STRINGS) × (guest.machine ≡ machine_of image args) × (guest.frames ≡ free_frames frames)
+LoadGives image args frames (Err (ArgsTooLong bytes)) = (MOST_STRINGS < strings_size args) × (bytes ≡ min (strings_size args) (2 ^ 64 - 1))
+LoadGives image args frames (Err NoMemory) = strings_size args ≤ MOST_STRINGS

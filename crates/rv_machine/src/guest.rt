@@ -3,7 +3,7 @@ ghost use Rattle.std.specs.Prelude.{◌≡◌, ◌<◌};
 ghost use Rattle.std.specs.Borrow.{sem};
 ghost use Rattle.guest_model.specs.Machine.{register, instruction_at};
 ghost use Rattle.guest_model.specs.Call.{finished};
-ghost use Rattle.rv_machine.specs.Guest.{machine};
+ghost use Rattle.rv_machine.specs.Guest.{memory_of};
 ghost use Rattle.rv_machine.specs.Lending.{LendsMemory};
 
 use crate::decoded::DecodedWords;
@@ -29,7 +29,10 @@ impl Model for Guest {
 
     ghost coded = { guest_code };
 
-    ghost view = { λ g. record { pc = g.pc; registers = g.registers; memory = g.memory; fresh = g.fresh } };
+    ghost view = { λ g. record {
+      machine = record { pc = g.pc; registers = g.registers; space = g.memory.space; fresh = g.fresh };
+      frames = g.memory.frames;
+    } };
 
     ghost invariant = { λ g. slice_index g.registers 0 ≡ 0 };
 }
@@ -37,7 +40,7 @@ impl Model for Guest {
 impl Guest {
     /// The address of the next instruction.
     pub fn pc(&self) -> u32
-        ensures { result ≡ self.now.pc }
+        ensures { result ≡ self.now.machine.pc }
     {
         self.pc
     }
@@ -45,21 +48,21 @@ impl Guest {
     /// The value of register `n`.
     pub fn reg(&self, n: u8) -> u32
         requires { n < 32 }
-        ensures { result ≡ register (machine self.now) n }
+        ensures { result ≡ register self.now.machine n }
     {
         self.registers[n as usize]
     }
 
     /// Whether the last instruction ended a block, or none has run.
     pub fn fresh(&self) -> bool
-        ensures { result ≡ self.now.fresh }
+        ensures { result ≡ self.now.machine.fresh }
     {
         self.fresh
     }
 
     /// The instruction at pc. None where the fetch is denied or the word has no row in the table.
     pub fn peek(&self) -> Option<Instr>
-        ensures { result ≡ instruction_at (machine self.now) }
+        ensures { result ≡ instruction_at self.now.machine }
     {
         match self.memory.fetch(self.pc) {
             Ok(word) => decode(word),
@@ -69,7 +72,7 @@ impl Guest {
 
     /// The memory.
     pub fn space(&self) -> &Space
-        ensures { result.now ≡ self.now.memory }
+        ensures { result.now ≡ memory_of self.now }
     {
         &self.memory
     }
@@ -77,7 +80,7 @@ impl Guest {
     /// The memory, to change it.
     pub fn space_mut(&mut self) -> &mut Space
         ensures* leaves { sem 𝓛 (LendsMemory self.entry result) }
-        ensures memory { result.now ≡ self.old.memory }
+        ensures memory { result.now ≡ memory_of self.old }
     {
         &mut self.memory
     }
@@ -85,8 +88,8 @@ impl Guest {
     /// Goes on behind the call at pc, with its result in x10.
     #[tactic(auto, unfolding(guest_model::specs::Call::finished))]
     pub fn finish_call(&mut self, answer: u32)
-        ensures machine { machine self.new ≡ finished (machine self.old) answer }
-        ensures memory { self.new.memory ≡ self.old.memory }
+        ensures machine { self.new.machine ≡ finished self.old.machine answer }
+        ensures frames { self.new.frames ≡ self.old.frames }
     {
         self.registers[10] = answer;
         self.pc = self.pc.wrapping_add(4);

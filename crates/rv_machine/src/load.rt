@@ -1,7 +1,7 @@
 // A guest at position 0.
 ghost use Rattle.std.specs.Prelude.{◌≡◌, ◌-◌, ◌^◌, ◌≤◌, All, IfOk, map, min, string_bytes};
 ghost use Rattle.elf_load.specs.Image.{IsSegment};
-ghost use Rattle.guest_mem.specs.Memory.{HasFreeFrames};
+ghost use Rattle.guest_mem.specs.Memory.{free_frames};
 ghost use Rattle.rv_machine.specs.Load.{LoadGives, area_of, first_break, segments_space, strings_size};
 ghost use Rattle.rv_machine.specs.declared.load.LoadFault.TheVariants.{NoMemory};
 
@@ -11,13 +11,9 @@ use crate::stack::{RANDOM, STACK, first_stack, stack_pointer};
 use elf_load::{Image, Segment};
 use guest_mem::Space;
 use guest_model::Area;
+use guest_model::platform::{MOST_STRINGS, PAGE_SIZE};
 use std::alloc::{AllocError, Global};
 use thiserror::Error;
-
-/// The most bytes of the argument strings, with a zero byte each.
-const MOST_STRINGS: u64 = 65_536;
-
-const PAGE: u32 = 4096;
 
 /// Why a guest was not made.
 #[derive(Clone, Copy, Debug, PartialEq, Eq, Error)]
@@ -38,8 +34,8 @@ impl From<AllocError> for LoadFault {
 
 impl Guest {
     /// The guest that runs an image from its first instruction on. Its stack has the argument strings, the first of which is
-    /// by custom the program's name, and the auxiliary vector. `frames` pages, at most 16,384, can be written until there
-    /// is no frame more; no page counts as written yet.
+    /// by custom the program's name, and the auxiliary vector. `frames` pages can be written until there is no frame more; no
+    /// page counts as written yet.
     ///
     /// # Errors
     /// `ArgsTooLong` where the strings with a zero byte each have more than 65,536 bytes; `NoMemory` where there is no memory
@@ -50,11 +46,10 @@ impl Guest {
         args: &[String],
         frames: u32,
     ) -> Result<Guest, LoadFault>
-        requires frames { frames ≤ 16384 }
         ensures { LoadGives image.now (map string_bytes args.now) frames result }
     {
         let bytes = strings_size(args);
-        if bytes > MOST_STRINGS {
+        if bytes > MOST_STRINGS as u64 {
             return Err(LoadFault::ArgsTooLong { bytes });
         }
         let strings = RANDOM - bytes as u32;
@@ -91,8 +86,8 @@ fn area_of(segment: &Segment) -> Area
     ensures { result ≡ area_of segment.now }
 {
     Area {
-        start: segment.start / PAGE * PAGE,
-        end: (segment.start + segment.size + PAGE - 1) / PAGE * PAGE,
+        start: segment.start / PAGE_SIZE * PAGE_SIZE,
+        end: (segment.start + segment.size + PAGE_SIZE - 1) / PAGE_SIZE * PAGE_SIZE,
         read: segment.flags & 4 != 0,
         write: segment.flags & 2 != 0,
         execute: segment.flags & 1 != 0,
@@ -113,9 +108,8 @@ fn first_break(segments: &[Segment]) -> u32
 
 // The segments and an empty heap behind them.
 fn segments_space(alloc: Global, image: &Image, frames: u32) -> Result<Space, AllocError>
-    requires { frames ≤ 16384 }
     ensures space { IfOk result (λ m. m.space ≡ segments_space image.now.segments) }
-    ensures frames { IfOk result (λ m. HasFreeFrames m frames) }
+    ensures frames { IfOk result (λ m. m.frames ≡ free_frames frames) }
 {
     let mut memory = Space::empty(alloc, first_break(&image.segments), frames)?;
     for segment in &image.segments {

@@ -2,23 +2,24 @@
 ghost use Rattle.std.specs.Prelude.{◌≡◌, ◌+◌, ◌-◌, ◌*◌, ◌/◌, ◌≤◌, ◌++◌, IfOk, OnOk, map, string_bytes};
 ghost use Rattle.std.specs.List.{flat_map};
 ghost use Rattle.guest_model.specs.Bytes.{low_bytes};
-ghost use Rattle.rv_machine.specs.Load.{first_stack, most_strings, stack_pointer_of, stack_words, strings_at, strings_size, with_zero};
+ghost use Rattle.rv_machine.specs.Load.{first_stack, stack_pointer_of, stack_words, strings_at, strings_size, with_zero};
 
 use elf_load::Image;
 use guest_model::Area;
+use guest_model::platform::{MOST_STRINGS, PAGE_SIZE, RANDOM_SIZE, STACK_END, STACK_START};
 use std::alloc::{AllocError, Global};
 
 /// Where the stack lies.
 pub(crate) const STACK: Area = Area {
-    start: 0x7fef_f000,
-    end: 0x7fff_f000,
+    start: STACK_START,
+    end: STACK_END,
     read: true,
     write: true,
     execute: false,
 };
 
 /// Where the 16 bytes of AT_RANDOM lie, at the end of the stack.
-pub(crate) const RANDOM: u32 = 0x7fff_eff0;
+pub(crate) const RANDOM: u32 = STACK_END - RANDOM_SIZE;
 
 const RANDOM_BYTES: [u8; 16] = [0, 1, 2, 3, 4, 5, 6, 7, 8, 9, 10, 11, 12, 13, 14, 15];
 
@@ -41,7 +42,7 @@ pub(crate) fn first_stack(
     strings: u32,
     pointer: u32,
 ) -> Result<Vec<u8>, AllocError>
-    requires few { strings_size (map string_bytes args.now) ≤ most_strings }
+    requires few { strings_size (map string_bytes args.now) ≤ MOST_STRINGS }
     requires strings { strings ≡ strings_at (map string_bytes args.now) }
     requires pointer { pointer ≡ stack_pointer_of (map string_bytes args.now) }
     ensures { IfOk result (λ bytes. bytes.items ≡ first_stack image.now (map string_bytes args.now)) }
@@ -61,7 +62,7 @@ fn stack_words(
     args: &[String],
     strings: u32,
 ) -> Result<Vec<u32>, AllocError>
-    requires few { strings_size (map string_bytes args.now) ≤ most_strings }
+    requires few { strings_size (map string_bytes args.now) ≤ MOST_STRINGS }
     requires strings { strings ≡ strings_at (map string_bytes args.now) }
     ensures { IfOk result (λ words. words.items ≡ stack_words image.now (map string_bytes args.now)) }
 {
@@ -82,7 +83,7 @@ fn stack_words(
         5,
         image.phnum as u32,
         6,
-        4096,
+        PAGE_SIZE,
         9,
         image.entry,
         25,

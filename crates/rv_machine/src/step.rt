@@ -1,14 +1,11 @@
 // One step: fetch, decode, carry out.
-ghost use Rattle.std.specs.Prelude.{◌≡◌, ◌<◌, true};
-ghost use Rattle.guest_model.specs.Areas.{all_permitted};
-ghost use Rattle.guest_model.specs.Effect.{effect_of, effect_by, rs1_value, rs2_value, immediate, address, target, moved, written, writes, computes, jumps, branches, loads, stores, stored_size};
-ghost use Rattle.guest_model.specs.Effect as effects;
+ghost use Rattle.std.specs.Prelude.{◌≡◌, ◌<◌};
+ghost use Rattle.guest_model.specs.Effect.{effect_of, effect_by, stored_by, rs1_value, rs2_value, immediate, address, target, machine_at, machine_with, passes, writes, computes, jumps, branches, loads, stores};
 ghost use Rattle.guest_model.specs.Machine.{following};
-ghost use Rattle.guest_model.specs.declared.Access.TheVariants.{Write};
-ghost use Rattle.guest_mem.specs.Memory.{HasFrames, TakesFrames};
-ghost use Rattle.rv_isa.specs.Kinds.{size_of};
-ghost use Rattle.rv_machine.specs.Guest.{machine};
-ghost use Rattle.rv_machine.specs.Step.{Gives, StepHasFrames, StepTakesFrames, status_of};
+ghost use Rattle.guest_model.specs.Written.{written_by};
+ghost use Rattle.guest_mem.specs.Frames.{HasAllFrames};
+ghost use Rattle.rv_isa.specs.Kinds.{mem_size};
+ghost use Rattle.rv_machine.specs.Step.{Gives, status_of};
 
 use crate::guest::Guest;
 use rv_isa::{Instr, Op, alu, is_taken, is_terminator, loaded, mem_size};
@@ -55,14 +52,13 @@ impl End {
     }
 }
 
+#[tactic(auto, using(guest_mem::proofs::Ranges::takes_none))]
 impl Guest {
     /// Tries the instruction at pc.
     #[tactic(auto, unfolding(guest_model::specs::Effect::effect_of))]
     pub fn step(&mut self) -> Stepped
-        requires frames { StepHasFrames self.old }
-        ensures gives { Gives (effect_of (machine self.old)) result self.old self.new }
-        ensures frames { StepTakesFrames result self.old self.new }
-        ensures all_frames { self.new.memory.frames ≡ self.old.memory.frames }
+        requires { HasAllFrames self.old.frames (written_by self.old.machine) }
+        ensures { Gives (effect_of self.old.machine) result self.old self.new }
     {
         let Ok(word) = self.memory.fetch(self.pc) else {
             return Stepped::Fault(FaultKind::Access);
@@ -75,12 +71,8 @@ impl Guest {
 
     // Carries out an instruction. Each load and store has an arm of its own, so that its size is a constant there.
     fn carry_out(&mut self, i: &Instr) -> Stepped
-        requires frames { all_permitted Write self.old.memory.space.areas (address (machine self.old) i.now) (stored_size i.now.op) ≡ true
-            → HasFrames self.old.memory (address (machine self.old) i.now) (stored_size i.now.op) }
-        ensures gives { Gives (effect_by i.now.op (machine self.old) i.now) result self.old self.new }
-        ensures memory { stored_size i.now.op ≡ 0 → self.new.memory ≡ self.old.memory }
-        ensures frames { 0 < stored_size i.now.op → result ≡ Stepped.Next
-            → TakesFrames self.old.memory self.new.memory (address (machine self.old) i.now) (stored_size i.now.op) }
+        requires { HasAllFrames self.old.frames (stored_by (effect_by i.now.op self.old.machine i.now)) }
+        ensures { Gives (effect_by i.now.op self.old.machine i.now) result self.old self.new }
     {
         match i.op {
             Op::Lui => self.write(i, immediate(i)),
@@ -107,41 +99,41 @@ impl Guest {
     }
 
     fn rs1(&self, i: &Instr) -> u32
-        ensures { result ≡ rs1_value (machine self.now) i.now }
+        ensures { result ≡ rs1_value self.now.machine i.now }
     {
         self.reg(i.rs1)
     }
 
     fn rs2(&self, i: &Instr) -> u32
-        ensures { result ≡ rs2_value (machine self.now) i.now }
+        ensures { result ≡ rs2_value self.now.machine i.now }
     {
         self.reg(i.rs2)
     }
 
     // Where a load, a store or a jump by a register goes.
     fn address(&self, i: &Instr) -> u32
-        ensures { result ≡ address (machine self.now) i.now }
+        ensures { result ≡ address self.now.machine i.now }
     {
         self.rs1(i).wrapping_add(immediate(i))
     }
 
     // Where a branch or a jump from pc goes.
     fn target(&self, i: &Instr) -> u32
-        ensures { result ≡ target (machine self.now) i.now }
+        ensures { result ≡ target self.now.machine i.now }
     {
         self.pc.wrapping_add(immediate(i))
     }
 
     fn following(&self) -> u32
-        ensures { result ≡ following (machine self.now) }
+        ensures { result ≡ following self.now.machine }
     {
         self.pc.wrapping_add(4)
     }
 
     // Goes to `next`.
     fn move_to(&mut self, i: &Instr, next: u32)
-        ensures machine { machine self.new ≡ moved (machine self.old) i.now next }
-        ensures memory { self.new.memory ≡ self.old.memory }
+        ensures machine { self.new.machine ≡ machine_at self.old.machine i.now next }
+        ensures frames { self.new.frames ≡ self.old.frames }
     {
         self.pc = next;
         self.fresh = is_terminator(i);
@@ -149,8 +141,8 @@ impl Guest {
 
     // Goes to `next`, with a value in rd; x0 stays 0.
     fn write_and_move(&mut self, i: &Instr, value: u32, next: u32)
-        ensures machine { machine self.new ≡ written (machine self.old) i.now value next }
-        ensures memory { self.new.memory ≡ self.old.memory }
+        ensures machine { self.new.machine ≡ machine_with self.old.machine i.now value next }
+        ensures frames { self.new.frames ≡ self.old.frames }
     {
         if i.rd != 0 {
             self.registers[i.rd as usize] = value;
@@ -159,16 +151,14 @@ impl Guest {
     }
 
     fn go_on(&mut self, i: &Instr) -> Stepped
-        ensures gives { Gives (effects.Next (moved (machine self.old) i.now (following (machine self.old)))) result self.old self.new }
-        ensures memory { self.new.memory ≡ self.old.memory }
+        ensures { Gives (passes self.old.machine i.now) result self.old self.new }
     {
         self.move_to(i, self.following());
         Stepped::Next
     }
 
     fn write(&mut self, i: &Instr, value: u32) -> Stepped
-        ensures gives { Gives (writes (machine self.old) i.now value) result self.old self.new }
-        ensures memory { self.new.memory ≡ self.old.memory }
+        ensures { Gives (writes self.old.machine i.now value) result self.old self.new }
     {
         self.write_and_move(i, value, self.following());
         Stepped::Next
@@ -176,8 +166,7 @@ impl Guest {
 
     #[inline(always)]
     fn compute(&mut self, i: &Instr, operand: u32) -> Stepped
-        ensures gives { Gives (computes (machine self.old) i.now operand) result self.old self.new }
-        ensures memory { self.new.memory ≡ self.old.memory }
+        ensures { Gives (computes self.old.machine i.now operand) result self.old self.new }
     {
         match alu(i.op, self.rs1(i), operand) {
             Some(value) => self.write(i, value),
@@ -186,8 +175,7 @@ impl Guest {
     }
 
     fn jump(&mut self, i: &Instr, to: u32) -> Stepped
-        ensures gives { Gives (jumps (machine self.old) i.now to) result self.old self.new }
-        ensures memory { self.new.memory ≡ self.old.memory }
+        ensures { Gives (jumps self.old.machine i.now to) result self.old self.new }
     {
         if to % 4 != 0 {
             return Stepped::Fault(FaultKind::Misaligned);
@@ -197,8 +185,7 @@ impl Guest {
     }
 
     fn branch(&mut self, i: &Instr) -> Stepped
-        ensures gives { Gives (branches (machine self.old) i.now) result self.old self.new }
-        ensures memory { self.new.memory ≡ self.old.memory }
+        ensures { Gives (branches self.old.machine i.now) result self.old self.new }
     {
         if !is_taken(i.op, self.rs1(i), self.rs2(i)) {
             return self.go_on(i);
@@ -213,9 +200,8 @@ impl Guest {
 
     #[inline(always)]
     fn load_register(&mut self, i: &Instr) -> Stepped
-        requires { 0 < size_of i.now.op }
-        ensures gives { Gives (loads (machine self.old) i.now) result self.old self.new }
-        ensures memory { self.new.memory ≡ self.old.memory }
+        requires { 0 < mem_size i.now.op }
+        ensures { Gives (loads self.old.machine i.now) result self.old self.new }
     {
         match self.memory.load(self.address(i), mem_size(i)) {
             Ok(value) => self.write(i, loaded(i.op, value)),
@@ -225,18 +211,19 @@ impl Guest {
 
     #[inline(always)]
     fn store(&mut self, i: &Instr) -> Stepped
-        requires size { 0 < size_of i.now.op }
-        requires frames { all_permitted Write self.old.memory.space.areas (address (machine self.old) i.now) (size_of i.now.op) ≡ true
-            → HasFrames self.old.memory (address (machine self.old) i.now) (size_of i.now.op) }
-        ensures gives { Gives (stores (machine self.old) i.now) result self.old self.new }
-        ensures frames { result ≡ Stepped.Next → TakesFrames self.old.memory self.new.memory (address (machine self.old) i.now) (size_of i.now.op) }
+        requires size { 0 < mem_size i.now.op }
+        requires frames { HasAllFrames self.old.frames (stored_by (stores self.old.machine i.now)) }
+        ensures { Gives (stores self.old.machine i.now) result self.old self.new }
     {
         let at = self.address(i);
         let value = self.rs2(i);
-        if self.memory.store(at, mem_size(i), value).is_err() {
-            return Stepped::Fault(FaultKind::Access);
+        match self.memory.store(at, mem_size(i), value) {
+            Ok(()) => {
+                self.move_to(i, self.following());
+                Stepped::Next
+            }
+            Err(_) => Stepped::Fault(FaultKind::Access),
         }
-        self.go_on(i)
     }
 }
 

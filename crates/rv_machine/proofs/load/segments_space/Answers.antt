@@ -1,6 +1,7 @@
 use Rattle.std.proofs.Common.{◌+◌, List, length, get_or, ap, subst, ◌∙◌, arith}
 use Rattle.elf_load.specs.Image.{IsImage, ImageFields, SegmentFields}
 use Rattle.rv_machine.specs.Load.{first_break}
+use Rattle.guest_mem.proofs.Begun.{none_written}
 use Rattle.rv_machine.proofs.Segments.{IsPlaced, break_is_page, break_at_least, break_at_most, placed, space_whole}
 use Rattle.rv_machine.proofs.load.segments_space.Goals as goal
 
@@ -41,3 +42,6 @@ pub returns-clause-space : goal.returns-clause-space
 returns-clause-space c =
     let same = c.deref-segment-items.ensures.value ∙ ap (λ (image : ImageFields). image.segments) c.image.view_is in
     c.loop-segment.invariant.space_is ∙ space_whole c.args.image.now.segments c.loop-segment.segment-index (omega (arith, c.loop-segment-test.false, ap (length {A = SegmentFields}) same))
+
+pub add_area-requires-clause-unwritten : goal.add_area-requires-clause-unwritten
+add_area-requires-clause-unwritten c = none_written c.loop-segment.memory.frames c.args.frames c.loop-segment.invariant.free

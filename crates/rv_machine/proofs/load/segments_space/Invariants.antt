@@ -1,5 +1,5 @@
 use Rattle.std.proofs.Common.{◌≡◌}
-use Rattle.guest_mem.specs.Memory.{HasFreeFrames}
+use Rattle.guest_mem.specs.Memory.{free_frames}
 use Rattle.rv_machine.proofs.Segments.{space_of}
 use Rattle.rv_machine.proofs.load.segments_space.Given as goal
 
@@ -7,5 +7,5 @@ use Rattle.rv_machine.proofs.load.segments_space.Given as goal
 abbrev pub invariant-loop-segment : goal.invariant-loop-segment
 invariant-loop-segment l = record {
   space_is : l.memory.space ≡ space_of l.image.segments l.segment-index;
-  free : HasFreeFrames l.memory l.frames;
+  free : l.memory.frames ≡ free_frames l.frames;
 }

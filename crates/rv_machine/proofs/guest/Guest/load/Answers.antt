@@ -3,7 +3,9 @@ use Rattle.std.proofs.lemmas.List.{length-map}
 use Rattle.elf_load.specs.Image.{IsImage, ImageFields}
 use Rattle.guest_model.specs.Added.{with_area}
 use Rattle.guest_model.specs.Space.{Space}
-use Rattle.rv_machine.specs.Load.{first_stack, most_strings, segments_space, stack_area, stack_pointer_of, strings_size}
+use Rattle.rv_machine.specs.Load.{first_stack, segments_space, stack_area, stack_pointer_of, strings_size}
+use Rattle.guest_model.specs.declared.platform.TheConstants.{MOST_STRINGS}
+use Rattle.guest_mem.proofs.Begun.{none_written}
 use Rattle.rv_machine.proofs.Segments.{IsPlaced, stack_placed}
 use Rattle.rv_machine.proofs.Words.{count-le-size, length-stack, machine_whole}
 use Rattle.rv_machine.proofs.guest.Guest.load.Goals as goal
@@ -12,7 +14,7 @@ use Rattle.rv_machine.proofs.guest.Guest.load.Goals.{After-deref}
 pub stack_pointer-pointer-requires : goal.stack_pointer-pointer-requires
 stack_pointer-pointer-requires c = omega (arith, count-le-size (map string_bytes c.args.args.now), length-map c.args.args.now string_bytes)
 
-few : (c : After-deref) → strings_size (map string_bytes c.args.args.now) ≤ most_strings
+few : (c : After-deref) → strings_size (map string_bytes c.args.args.now) ≤ MOST_STRINGS
 few c = omega (arith, c.strings_size-bytes.ensures)
 
 pointer_is : (c : After-deref) → c.stack_pointer-pointer.result ≡ stack_pointer_of (map string_bytes c.args.args.now)
@@ -52,10 +54,8 @@ returns c =
     ∙ ap (with_area (segments_space c.args.image.now.segments) stack_area (stack_pointer_of args)) (bytes_are before) in (
       few before,
       machine_whole c.args.image.now args c.image.inside.entry c.stack_pointer-pointer.result c.add_area.new.self.space (ap (λ (image : ImageFields). image.entry) c.image.view_is) (pointer_is before) space,
-      record {
-        framed = kept.framed ∙ given.framed;
-        touched = kept.touched ∙ given.touched;
-        free = kept.free ∙ given.free;
-        frames_are = kept.frames ∙ given.frames_are;
-      },
+      kept.frames ∙ given,
     )
+
+pub add_area-requires-clause-unwritten : goal.add_area-requires-clause-unwritten
+add_area-requires-clause-unwritten c = none_written c.in_ok-segments_space.field-0.frames c.args.frames c.in_ok-segments_space.ensures.frames
