@@ -10,14 +10,15 @@ use Rattle.std.proofs.lemmas.List.{append-nil, take_all, drop_all, drop-drop, le
 use Rattle.std.proofs.lemmas.List.Sums.{fold_more}
 use Rattle.call_record.specs.Record.{Stored}
 use Rattle.guest_model.specs.Bytes.{Bytes, put_bytes}
-use Rattle.guest_model.specs.Call.{Piece, filled, store_all, stored_at}
-use Rattle.syscall_layer.specs.Vectors.{place_of}
+use Rattle.guest_model.specs.Call.{filled, store_all, stored_at}
+use Rattle.guest_model.specs.Range.{Range}
+use Rattle.syscall_layer.specs.Serve.{range_of}
 
 stored_one : (a : ℕ) (xs : List ℕ) → 0 < length xs → stored_at a xs ≡ record { at = a; bytes = xs } ∷ []
 stored_one a [] some = absurd (omega arith)
 stored_one a (x ∷ xs) some = refl
 
-pub none_filled : (ps : List Piece) → filled ps [] ≡ []
+pub none_filled : (ps : List Range) → filled ps [] ≡ []
 none_filled [] = refl
 none_filled (p ∷ ps) =
     ap (λ (xs : List ℕ). stored_at p.at xs ++ filled ps (drop p.size [])) (take_all p.size [] (omega arith)) ∙ (ap (filled ps) (drop_all p.size [] (omega arith)) ∙ none_filled ps)
@@ -32,11 +33,11 @@ dropped bytes room done n count =
 
 -- the bytes that are left go to the next write, and then to the others
 next_filled : (o : Stored) (os : List Stored) (bytes : List ℕ) (done n : ℕ) → 0 < length o.bytes → done < length bytes → n ≡ length (take (length o.bytes) (drop done bytes))
-    → filled (map place_of (o ∷ os)) (drop done bytes) ≡ record { at = o.at; bytes = take (length o.bytes) (drop done bytes) } ∷ filled (map place_of os) (drop (done + n) bytes)
+    → filled (map range_of (o ∷ os)) (drop done bytes) ≡ record { at = o.at; bytes = take (length o.bytes) (drop done bytes) } ∷ filled (map range_of os) (drop (done + n) bytes)
 next_filled o os bytes done n room left count =
     let some : 0 < length (take (length o.bytes) (drop done bytes)) = omega (arith, length-take (length o.bytes) (drop done bytes), length-drop done bytes) in
-    ap (λ (xs : List Stored). xs ++ filled (map place_of os) (drop (length o.bytes) (drop done bytes))) (stored_one o.at (take (length o.bytes) (drop done bytes)) some)
-    ∙ ap (λ (xs : List ℕ). record { at = o.at; bytes = take (length o.bytes) (drop done bytes) } ∷ filled (map place_of os) xs) (dropped bytes (length o.bytes) done n count)
+    ap (λ (xs : List Stored). xs ++ filled (map range_of os) (drop (length o.bytes) (drop done bytes))) (stored_one o.at (take (length o.bytes) (drop done bytes)) some)
+    ∙ ap (λ (xs : List ℕ). record { at = o.at; bytes = take (length o.bytes) (drop done bytes) } ∷ filled (map range_of os) xs) (dropped bytes (length o.bytes) done n count)
 
 -- The first writes have the first bytes, and the others their room.
 pub record IsDealt (all now : List Stored) (bytes : List ℕ) (used done : ℕ) : Type 0 where
@@ -45,7 +46,7 @@ pub record IsDealt (all now : List Stored) (bytes : List ℕ) (used done : ℕ) 
   pub size : length now ≡ length all
   pub rest : drop used now ≡ drop used all
   pub room : list_all (λ s. not (length s.bytes == 0)) (drop used all) ≡ true
-  pub so_far : take used now ++ filled (map place_of (drop used all)) (drop done bytes) ≡ filled (map place_of all) bytes
+  pub so_far : take used now ++ filled (map range_of (drop used all)) (drop done bytes) ≡ filled (map range_of all) bytes
 
 pub deals_next : (all now : List Stored) (bytes : List ℕ) (used done n : ℕ) (w next : Stored) → IsDealt all now bytes used done → used < length now → done < length bytes → w ≡ get_or now used w
     → next ≡ record { at = w.at; bytes = take (length w.bytes) (drop done bytes) } → n ≡ length (take (length w.bytes) (drop done bytes)) → IsDealt all (set now used next) bytes (used + 1) (done + n)
@@ -63,20 +64,20 @@ deals_next all now bytes used done n w next before more left is dealt count =
       rest = drop-set-lt (used + 1) now used next (omega arith) ∙ others;
       room = parts.1;
       so_far =
-          ap (λ (xs : List Stored). xs ++ filled (map place_of (drop (used + 1) all)) (drop (done + n) bytes)) (ap (λ (k : ℕ). take k (set now used next)) (sym one) ∙ take-suc-set now used next more)
-          ∙ (append_assoc (take used now) (next ∷ []) (filled (map place_of (drop (used + 1) all)) (drop (done + n) bytes))
-          ∙ (ap (λ (o : Stored). take used now ++ (o ∷ filled (map place_of (drop (used + 1) all)) (drop (done + n) bytes))) dealt
+          ap (λ (xs : List Stored). xs ++ filled (map range_of (drop (used + 1) all)) (drop (done + n) bytes)) (ap (λ (k : ℕ). take k (set now used next)) (sym one) ∙ take-suc-set now used next more)
+          ∙ (append_assoc (take used now) (next ∷ []) (filled (map range_of (drop (used + 1) all)) (drop (done + n) bytes))
+          ∙ (ap (λ (o : Stored). take used now ++ (o ∷ filled (map range_of (drop (used + 1) all)) (drop (done + n) bytes))) dealt
           ∙ (ap (λ (xs : List Stored). take used now ++ xs) (sym (next_filled w (drop (used + 1) all) bytes done n room left count))
-          ∙ (ap (λ (xs : List Stored). take used now ++ filled (map place_of xs) (drop done bytes)) (sym split) ∙ before.so_far))));
+          ∙ (ap (λ (xs : List Stored). take used now ++ filled (map range_of xs) (drop done bytes)) (sym split) ∙ before.so_far))));
     }
 
 -- no write or no byte is left
-pub all_dealt : (all now : List Stored) (bytes : List ℕ) (used done : ℕ) → IsDealt all now bytes used done → (length now ≤ used) ⊎ (length bytes ≤ done) → take used now ≡ filled (map place_of all) bytes
+pub all_dealt : (all now : List Stored) (bytes : List ℕ) (used done : ℕ) → IsDealt all now bytes used done → (length now ≤ used) ⊎ (length bytes ≤ done) → take used now ≡ filled (map range_of all) bytes
 all_dealt all now bytes used done dealt (inl end) =
-    sym (append-nil (take used now)) ∙ (ap (λ (xs : List Stored). take used now ++ filled (map place_of xs) (drop done bytes)) (sym (drop_all used all (omega (arith, dealt.size)))) ∙ dealt.so_far)
+    sym (append-nil (take used now)) ∙ (ap (λ (xs : List Stored). take used now ++ filled (map range_of xs) (drop done bytes)) (sym (drop_all used all (omega (arith, dealt.size)))) ∙ dealt.so_far)
 all_dealt all now bytes used done dealt (inr end) =
     sym (append-nil (take used now))
-    ∙ (ap (λ (xs : List Stored). take used now ++ xs) (sym (ap (filled (map place_of (drop used all))) (drop_all done bytes end) ∙ none_filled (map place_of (drop used all)))) ∙ dealt.so_far)
+    ∙ (ap (λ (xs : List Stored). take used now ++ xs) (sym (ap (filled (map range_of (drop used all))) (drop_all done bytes end) ∙ none_filled (map range_of (drop used all)))) ∙ dealt.so_far)
 
 -- the writes from write k on
 pub next_write : (ws : List Stored) (k : ℕ) (w : Stored) → k < length ws → get_or ws k w ≡ w → drop k ws ≡ w ∷ drop (k + 1) ws

@@ -1,4 +1,4 @@
--- A buffer that is filled from the input piece by piece.
+-- A buffer that is filled from the input range by range.
 use Rattle.std.proofs.Common.{◌≡◌, ℕ, ◌≤◌, ◌+◌, List, [], ◌++◌, length, take, drop, arith, refl, ap, sym, ◌∙◌, length-drop}
 use Rattle.std.specs.Prelude.{Option, None, Some}
 use Rattle.std.proofs.lemmas.List.{length-take-le, take-append-le, take_all, drop_all}

@@ -1,12 +1,8 @@
 pub mod Filled
-pub mod Frames
-pub mod Enough
 pub mod Sending
 pub mod Arrays
-pub mod Went
-pub mod Reading
 pub mod Dealt
 pub mod Used
-pub mod Tabled
 pub mod Received
-pub mod Readv
+pub mod Permitted
+pub mod Deeds

@@ -1,13 +1,19 @@
 -- Bytes of memory that are sent in parts.
-use Rattle.std.proofs.Common.{subst, length-append, ◌-◌, ◌≡◌, ℕ, zero, suc, ◌+◌, ◌≤◌, List, [], ◌∷◌, ◌++◌, length, take, sym, ap, ◌∙◌, arith, append_assoc, add-zero}
+use Rattle.std.proofs.Common.{subst, length-append, refl, ◌-◌, ◌≡◌, ◌≢◌, ℕ, zero, suc, ◌+◌, ◌≤◌, List, [], ◌∷◌, ◌++◌, length, take, sym, ap, ◌∙◌, arith, append_assoc, add-zero}
+use Rattle.std.specs.Prelude.{Option, Some, None}
+use Rattle.std.proofs.lemmas.Grind.{flat_map-append}
 use Rattle.std.proofs.lemmas.List.FromFn.{length-map-range_with_len, map-range_with_len_more}
 use Rattle.std.proofs.lemmas.List.{append-nil, take-append-le}
 use Rattle.std.proofs.Math.Seq.{take-append-add}
-use Rattle.sp_host.specs.Told.{Told, sent, PartSent}
+use Rattle.sp_host.specs.Told.{Told, appended, sent, PartSent}
 use Rattle.sp_host.specs.declared.host.Port.{Port}
-use Rattle.sp_host.proofs.Told.{sent_more}
+use Rattle.sp_host.specs.declared.host.Port.TheVariants.{Out, Err, Report}
+use Rattle.sp_host.proofs.Told.{appended-more, sent_more}
 use Rattle.guest_model.specs.Areas.{wrap}
 use Rattle.guest_model.specs.Bytes.{Bytes, byte_at, bytes_at}
+use Rattle.guest_model.specs.Call.{World, Sent}
+use Rattle.guest_model.specs.Serial.{bytes_to, to_port}
+use Rattle.syscall_layer.specs.Serve.{port_number, told_after}
 
 pub length_bytes : (m : Bytes) (a n : ℕ) → length (bytes_at m a n) ≡ n
 length_bytes m a n = length-map-range_with_len (λ i. byte_at m (wrap (a + i))) 0 n
@@ -53,3 +59,31 @@ part_behind p m a n k len old new fits part =
     let whole : bytes_at m a n ++ (bytes_at m (a + n) k ++ bytes_at m (a + n + k) rest) ≡ bytes_at m a len =
     ap (λ (xs : List ℕ). bytes_at m a n ++ xs) (sym (bytes_split m (a + n) k rest)) ∙ (sym (bytes_split m a n (k + rest)) ∙ ap (bytes_at m a) all) in
     subst (λ (xs : List ℕ). PartSent p xs old new) whole (part_between p (bytes_at m a n) (bytes_at m (a + n) k) (bytes_at m (a + n + k) rest) old new part)
+
+to_more : (port : ℕ) (before : List Sent) (m : Sent) → bytes_to port (before ++ m ∷ []) ≡ bytes_to port before ++ to_port port m
+to_more port before m = flat_map-append (to_port port) before (m ∷ []) ∙ ap (λ (xs : List ℕ). bytes_to port before ++ xs) (append-nil (to_port port m))
+
+-- what is told after bytes went to a port, and the outputs that they did not go to
+told_more : (t : Told) (w : World) (before : List Sent) (m : Sent) → told_after t w (before ++ m ∷ [])
+    ≡ record t { input = Some w.input; moments = Some w.moments; out = appended (appended t.out (bytes_to 1 before)) (to_port 1 m); err = appended (appended t.err (bytes_to 2 before)) (to_port 2 m) }
+told_more t w before m =
+    ap (λ (o : Option (List ℕ)). record t { input = Some w.input; moments = Some w.moments; out = o; err = appended t.err (bytes_to 2 (before ++ m ∷ [])) })
+    (ap (appended t.out) (to_more 1 before m) ∙ sym (appended-more t.out (bytes_to 1 before) (to_port 1 m)))
+    ∙ ap (λ (o : Option (List ℕ)). record t { input = Some w.input; moments = Some w.moments; out = appended (appended t.out (bytes_to 1 before)) (to_port 1 m); err = o })
+    (ap (appended t.err) (to_more 2 before m) ∙ sym (appended-more t.err (bytes_to 2 before) (to_port 2 m)))
+
+appended_none : (o : Option (List ℕ)) (xs : List ℕ) → appended (appended o xs) [] ≡ appended o xs
+appended_none o xs = appended-more o xs [] ∙ ap (appended o) (append-nil xs)
+
+-- what is told after a guest sent bytes
+pub told_sent : (port : Port) (number : ℕ) (bytes : List ℕ) (t : Told) (w : World) (before : List Sent) → port_number port ≡ number → port ≢ Report
+    → sent port bytes (told_after t w before) ≡ told_after t w (before ++ record { port = number; bytes = bytes } ∷ [])
+told_sent Out number bytes t w before names guests =
+    subst (λ (n : ℕ). sent Out bytes (told_after t w before) ≡ told_after t w (before ++ record { port = n; bytes = bytes } ∷ [])) names
+    (sym (told_more t w before (record { port = 1; bytes = bytes })
+    ∙ ap (λ (o : Option (List ℕ)). record t { input = Some w.input; moments = Some w.moments; out = appended (appended t.out (bytes_to 1 before)) bytes; err = o }) (appended_none t.err (bytes_to 2 before))))
+told_sent Err number bytes t w before names guests =
+    subst (λ (n : ℕ). sent Err bytes (told_after t w before) ≡ told_after t w (before ++ record { port = n; bytes = bytes } ∷ [])) names
+    (sym (told_more t w before (record { port = 2; bytes = bytes })
+    ∙ ap (λ (o : Option (List ℕ)). record t { input = Some w.input; moments = Some w.moments; out = o; err = appended (appended t.err (bytes_to 2 before)) bytes }) (appended_none t.out (bytes_to 1 before))))
+told_sent Report number bytes t w before names guests = absurd (guests refl)

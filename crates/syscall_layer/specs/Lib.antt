@@ -1,5 +1,3 @@
 pub mod Serve
-pub mod Frames
 pub mod Input
-pub mod Went
-pub mod Vectors
+pub mod Maps

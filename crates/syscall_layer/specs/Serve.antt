@@ -1,20 +1,26 @@
--- What serving a call answers, and what it does to what a host tells.
-use Rattle.std.specs.Prelude.{◌≡◌, ◌≢◌, ℕ, ◌<◌, ◌==◌, ◌||◌, Bool, List, [], ◌∷◌, ◌++◌, Option, None, Some, Result, Ok, Err}
+-- What serving a call answers, and what it does to the guest and to what a host tells.
+use Rattle.std.specs.Prelude.{◌≡◌, ◌≢◌, ℕ, ◌<◌, ◌≤◌, List, [], ◌∷◌, ◌++◌, length, map, Option, None, Some, Result, Ok, Err}
+use Rattle.call_record.specs.Record.{CallRecord, Stored}
 use Rattle.sp_host.specs.Told.{Told, appended, PartSent}
-use Rattle.sp_host.specs.Faults.{Source, Input, To}
+use Rattle.sp_host.specs.Faults.{Faults, Source, Input, To, CausedIn}
 use Rattle.sp_host.specs.declared.host.Port.{Port}
 use Rattle.sp_host.specs.declared.host.Port.TheVariants.{Out, Err as StandardError, Report}
-use Rattle.guest_model.specs.Call.{World, Sent, Called, Went, Exits, Untabled, asked_size, input_after}
+use Rattle.guest_model.specs.Call.{World, Sent, Called, Went, Exits, call_with, filled, input_after, machine_after, record_of, stored_at, time_bytes}
+use Rattle.guest_model.specs.Call as calls
+use Rattle.guest_model.specs.Calls.{Deed, Answers, Takes, Sends, Tells, Maps, Ends, call_number}
+use Rattle.guest_model.specs.Machine.{Machine}
+use Rattle.guest_model.specs.Range.{Range, range, total_size}
 use Rattle.guest_model.specs.Serial.{bytes_to}
-use Rattle.rv_machine.specs.Guest.{GuestState, machine}
+use Rattle.guest_mem.specs.Frames.{Frames, TakesFrames}
+use Rattle.rv_machine.specs.Guest.{GuestState}
 use Rattle.syscall_layer.specs.declared.fault.CallFault.{CallFault}
-use Rattle.syscall_layer.specs.declared.fault.CallFault.TheVariants.{Unsupported, InputFault, OutputFault, NoMemory}
+use Rattle.syscall_layer.specs.declared.fault.CallFault.TheVariants as faults
 use Rattle.syscall_layer.specs.declared.server.Served.{Served}
 use Rattle.syscall_layer.specs.declared.server.Served.TheVariants as served
 
 -- what is told when a run that began at t left this world and sent these bytes
-abbrev pub at : Told → World → List Sent → Told
-at t w messages = record t { input = Some w.input; moments = Some w.moments; out = appended t.out (bytes_to 1 messages); err = appended t.err (bytes_to 2 messages) }
+abbrev pub told_after : Told → World → List Sent → Told
+told_after t w sent = record t { input = Some w.input; moments = Some w.moments; out = appended t.out (bytes_to 1 sent); err = appended t.err (bytes_to 2 sent) }
 
 -- the number of a port that a guest can write to; the report is none
 abbrev pub port_number : Port → ℕ
@@ -24,42 +30,103 @@ port_number Report = 0
 
 -- the count that a fault raised
 abbrev pub source_of : CallFault → Option Source
-source_of (Unsupported number) = None
-source_of InputFault = Some Input
-source_of (OutputFault port) = Some (To port)
-source_of NoMemory = None
+source_of (faults.Unsupported number) = None
+source_of faults.InputFault = Some Input
+source_of (faults.OutputFault port) = Some (To port)
+source_of faults.NoMemory = None
 
--- an output fault is of a port that a guest can write to
-abbrev pub IsOfGuest : CallFault → Type 0
-IsOfGuest (OutputFault port) = port ≢ Report
-IsOfGuest fault = Unit {0}
+-- what is known of the record of a call that does this, whatever the host is
+abbrev pub IsRecordOf : Deed → Machine → CallRecord → Type 0
+IsRecordOf (Answers answer) m entry = entry ≡ record_of m answer []
+IsRecordOf (Takes into) m entry = (bytes : List ℕ) × (length bytes ≤ total_size into) × (entry ≡ record_of m (length bytes) (filled into bytes))
+IsRecordOf (Sends port bytes answer) m entry = entry ≡ record_of m answer []
+IsRecordOf (Tells at) m entry = (moment : ℕ) × (entry ≡ record_of m 0 (stored_at at (time_bytes moment)))
+IsRecordOf (Maps changed) m entry = entry ≡ record_of m changed.answer []
+IsRecordOf (Ends status) m entry = ⊥
+
+-- where bytes were stored
+abbrev pub range_of : Stored → Range
+range_of s = range s.at (length s.bytes)
+
+-- The frames after a call that does this and stored so: it took those of what it stored. Where it changed the areas, no
+-- page was written, and those of pages that are mapped no longer are free.
+abbrev pub FramesAfter : Deed → List Stored → Frames → Frames → Type 0
+FramesAfter (Maps changed) stored old new = (new.written ≡ old.written) × (new.count ≡ old.count)
+FramesAfter deed stored old new = TakesFrames old new (map range_of stored)
+
+-- The guest went on behind a call that does this and left this record.
+pub record GoesOn (deed : Deed) (entry : CallRecord) (old new : GuestState) : Type 0 where
+  pub record_is : IsRecordOf deed old.machine entry
+  pub machine_is : new.machine ≡ machine_after old.machine deed entry
+  pub frames : FramesAfter deed entry.stored old.frames new.frames
+
+-- a call that takes memory
+abbrev pub TakesMemory : Deed → Type 0
+TakesMemory (Takes into) = Unit {0}
+TakesMemory (Tells at) = Unit {0}
+TakesMemory deed = ⊥
+
+abbrev pub TakesInput : Deed → Type 0
+TakesInput (Takes into) = Unit {0}
+TakesInput deed = ⊥
+
+abbrev pub SendsTo : Port → Deed → Type 0
+SendsTo port (Sends number bytes answer) = (number ≡ port_number port) × (port ≢ Report)
+SendsTo port deed = ⊥
+
+abbrev pub EndsWith : ℕ → Deed → Type 0
+EndsWith given (Ends status) = given ≡ status
+EndsWith given deed = ⊥
+
+-- What the answer to a call says of it and of the guest, for every host: the cause of each fault, too. After a fault the
+-- guest is as before.
+abbrev pub AnswersDeed : Deed → Result Served CallFault → GuestState → GuestState → Type 0
+AnswersDeed deed (Ok (served.Went entry)) old new = GoesOn deed entry old new
+AnswersDeed deed (Ok (served.Exit status)) old new = EndsWith status deed × (new ≡ old)
+AnswersDeed deed (Err (faults.Unsupported number)) old new = ⊥
+AnswersDeed deed (Err faults.InputFault) old new = TakesInput deed × (new ≡ old)
+AnswersDeed deed (Err (faults.OutputFault port)) old new = SendsTo port deed × (new ≡ old)
+AnswersDeed deed (Err faults.NoMemory) old new = TakesMemory deed × (new ≡ old)
+
+abbrev pub AnswersCall : Option Deed → Result Served CallFault → GuestState → GuestState → Type 0
+AnswersCall None result old new = (result ≡ Err (faults.Unsupported (call_number old.machine))) × (new ≡ old)
+AnswersCall (Some deed) result old new = AnswersDeed deed result old new
 
 -- A beginning of the input left was taken, shorter than the call asks for, and nothing else changed.
 pub record PartTaken (t : Told) (w : World) (before : List Sent) (asked : ℕ) (new : Told) : Type 0 where
   pub count : ℕ
   pub few : count < asked
-  pub told_is : new ≡ at t (input_after w count) before
+  pub told_is : new ≡ told_after t (input_after w count) before
+
+-- the call does no more than take from the input, and a beginning of what it asks for was taken
+abbrev pub InputPart : Option Deed → Told → World → List Sent → Told → Type 0
+InputPart (Some (Takes into)) t w before new = PartTaken t w before (total_size into) new
+InputPart deed t w before new = ⊥
 
 -- The call sends bytes to this port, and a beginning of them was written, not all of them.
-pub record PartWritten (t : Told) (w : World) (before : List Sent) (port : Port) (messages : List Sent) (new : Told) : Type 0 where
+pub record PartWritten (t : Told) (w : World) (before : List Sent) (port : Port) (sent : List Sent) (new : Told) : Type 0 where
   pub bytes : List ℕ
-  pub sends : messages ≡ record { port = port_number port; bytes = bytes } ∷ []
-  pub part : PartSent port bytes (at t w before) new
+  pub sends : sent ≡ record { port = port_number port; bytes = bytes } ∷ []
+  pub part : PartSent port bytes (told_after t w before) new
 
--- A call of the guest `old`, where the outside stood at t with this world after these bytes were sent: the answer is that of
--- the call's row, and guest and outside changed by exactly that call. After a fault the guest is as before, and the outside
--- stands where the failed call left it; memory is taken before the outside is asked.
-abbrev pub ServeGives : Told → World → List Sent → Called → Result Served CallFault → GuestState → GuestState → Told → Type 0
-ServeGives t w before (Went next later entry messages) (Ok (served.Went record_is)) old new told = (machine new ≡ next) × (record_is ≡ entry) × (told ≡ at t later (before ++ messages))
-ServeGives t w before (Went next later entry messages) (Ok (served.Exit status)) old new told = ⊥
-ServeGives t w before (Went next later entry messages) (Err (Unsupported number)) old new told = ⊥
-ServeGives t w before (Went next later entry messages) (Err InputFault) old new told = (new ≡ old) × (messages ≡ []) × PartTaken t w before (asked_size (machine old)) told
-ServeGives t w before (Went next later entry messages) (Err (OutputFault port)) old new told = (new ≡ old) × PartWritten t w before port messages told
-ServeGives t w before (Exits status) (Ok (served.Exit given)) old new told = (given ≡ status) × (new ≡ old) × (told ≡ at t w before)
-ServeGives t w before (Untabled number) (Err (Unsupported given)) old new told = (given ≡ number) × (new ≡ old) × (told ≡ at t w before)
-ServeGives t w before called (Err NoMemory) old new told = (new ≡ old) × (told ≡ at t w before)
-ServeGives t w before called answer old new told = ⊥
+-- What is told after a call, where the outside stood at t with this world after these bytes were sent: it changed by
+-- exactly that call. After a fault it stands where the failed call left it; memory is taken before the outside is asked.
+abbrev pub TellsCall : Option Deed → Told → World → List Sent → Called → Result Served CallFault → GuestState → Told → Type 0
+TellsCall deed t w before (Went next later entry sent) (Ok (served.Went given)) new told = (new.machine ≡ next) × (given ≡ entry) × (told ≡ told_after t later (before ++ sent))
+TellsCall deed t w before (Exits status) (Ok (served.Exit given)) new told = (given ≡ status) × (told ≡ told_after t w before)
+TellsCall deed t w before (calls.Unsupported number) (Err (faults.Unsupported given)) new told = (given ≡ number) × (told ≡ told_after t w before)
+TellsCall deed t w before called (Err faults.InputFault) new told = InputPart deed t w before told
+TellsCall deed t w before (Went next later entry sent) (Err (faults.OutputFault port)) new told = PartWritten t w before port sent told
+TellsCall deed t w before called (Err faults.NoMemory) new told = told ≡ told_after t w before
+TellsCall deed t w before called answer new told = ⊥
 
--- whether a call with this number takes from outside or sends there
-abbrev pub reaches_outside : ℕ → Bool
-reaches_outside number = number == 63 || number == 64 || number == 65 || number == 66 || number == 403
+-- what is told after a call that does this, where a run that began at some t is told
+abbrev pub TellsDeed : Option Deed → Told → Result Served CallFault → GuestState → GuestState → Told → Type 0
+TellsDeed deed old_told result old new new_told =
+    (t : Told) (w : World) (before : List Sent) → old_told ≡ told_after t w before → TellsCall deed t w before (call_with deed old.machine w) result new new_told
+
+-- A call that does this was served.
+pub record IsServed (deed : Option Deed) (old_told new_told : Told) (old_faults new_faults : Faults) (result : Result Served CallFault) (old new : GuestState) : Type 0 where
+  pub answer : AnswersCall deed result old new
+  pub told : TellsDeed deed old_told result old new new_told
+  pub faults : CausedIn source_of old_faults new_faults result

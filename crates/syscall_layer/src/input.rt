@@ -1,30 +1,30 @@
-// The input of a guest.
-ghost use Rattle.std.specs.Prelude.{◌≡◌, ◌≢◌, ℕ, ◌≤◌, List, [], length, take, vec_capacity, Err, IfOk, IfErr, MatchResult, OnErr};
-ghost use Rattle.sp_host.specs.Told.{Told, WhereTold, input_taken};
-ghost use Rattle.sp_host.specs.Faults.{Caused, Counts};
+// The calls that read.
+ghost use Rattle.std.specs.Prelude.{◌≡◌, ◌≤◌, ◌==◌, true, [], ◌∷◌, Some, length, map, filter, not};
+ghost use Rattle.std.specs.Prelude.{IfOk, MatchResult};
+ghost use Rattle.std.specs.List.{list_all};
+ghost use Rattle.sp_host.specs.Told.{WhereTold, input_taken};
+ghost use Rattle.sp_host.specs.Faults.{CausedIn, Counts};
 ghost use Rattle.sp_host.specs.Faults.Source.{Input};
-ghost use Rattle.guest_model.specs.Call.{World, Sent, call_number, stored_at, went, reads, read_call as read_row};
-ghost use Rattle.rv_machine.specs.Guest.{machine};
-ghost use Rattle.syscall_layer.specs.Frames.{CallHasFrames};
-ghost use Rattle.syscall_layer.specs.Input.{Fills, IsCutShort, IsBuffer};
-ghost use Rattle.syscall_layer.specs.Serve.{at as stands_at, source_of, IsOfGuest, ServeGives};
+ghost use Rattle.guest_model.specs.Call.{filled};
+ghost use Rattle.guest_model.specs.Calls.{Takes, can_write, read_row, readv_row, storable};
+ghost use Rattle.guest_model.specs.Range.{total_size};
+ghost use Rattle.guest_mem.specs.Frames.{HasAllFrames};
+ghost use Rattle.syscall_layer.specs.Input.{Fills, FillsRanges, FaultTakes, IsCutShort};
+ghost use Rattle.syscall_layer.specs.Serve.{IsServed, range_of, source_of};
 
-use crate::errors::{BAD_ADDRESS, BAD_FILE};
 use crate::fault::CallFault;
-use crate::output::finish;
+use crate::finish::{finish, finish_storing};
+use crate::ranges::{Range, are_writable, size_of, used_ranges};
 use crate::server::Served;
-use crate::vectors::finish_storing;
 use call_record::Write;
+use guest_model::platform::{EBADF, EFAULT, EINVAL, MOST_RANGES, MOST_READ, failure};
 use rv_machine::Guest;
 use sp_host::{Failed, Host};
-use std::alloc::Global;
+use std::alloc::{AllocError, Global};
 
-/// The most bytes that one call reads.
-pub(crate) const MOST_READ: u32 = 65536;
-
-/// Fills a buffer from the front of the input, and answers how many bytes came: fewer than the buffer has only where the input
-/// has no more. A call of the host that moves less is not the end. After a failed call the input lacks what was taken before.
-pub(crate) fn fill<H: Host>(host: &mut H, buffer: &mut [u8]) -> Result<usize, Failed>
+// Fills a buffer from the front of the input, and answers how many bytes came: fewer than the buffer has only where the input
+// has no more. A call of the host that moves less is not the end. After a failed call the input lacks what was taken before.
+fn fill<H: Host>(host: &mut H, buffer: &mut [u8]) -> Result<usize, Failed>
     ensures size { length buffer.new ≡ length buffer.old }
     ensures bound { IfOk result (λ n. n ≤ length buffer.new) }
     ensures bytes { IfOk result (λ n. WhereTold (H.told host.old).input (λ left. Fills left n buffer.new)) }
@@ -43,104 +43,146 @@ pub(crate) fn fill<H: Host>(host: &mut H, buffer: &mut [u8]) -> Result<usize, Fa
     Ok(count)
 }
 
-/// The next bytes of the input in place of these: as many, or fewer where the input has no more.
-fn next_input<H: Host>(host: &mut H, mut bytes: Vec<u8>) -> Result<Vec<u8>, Failed>
-    ensures size { IfOk result (λ v. length v.items ≤ length bytes.items) }
-    ensures bytes { IfOk result (λ v. WhereTold (H.told host.old).input (λ left. v.items ≡ take (length bytes.items) left)) }
-    ensures told { MatchResult result (λ _. H.told host.new ≡ input_taken (length bytes.items) (H.told host.old))
-        (λ _. IsCutShort (length bytes.items) (H.told host.old) (H.told host.new)) }
-    ensures faults { Counts Input (H.faults host.old) (H.faults host.new) result }
-{
-    let count = fill(host, &mut bytes)?;
-    bytes.truncate(count);
-    Ok(bytes)
+// What was taken from the input: how many bytes, and the writes that store them.
+#[derive(Drop)]
+struct Taken {
+    count: u32,
+    writes: Vec<Write>,
 }
 
-/// The writes of a record: these bytes, where there are any. `writes` has room for them, so that this takes no memory.
-pub(crate) fn written(at: u32, bytes: Vec<u8>, mut writes: Vec<Write>) -> Vec<Write>
-    requires none { writes.items ≡ [] }
-    requires room { 1 ≤ vec_capacity writes }
-    ensures { result.items ≡ stored_at at bytes.items }
+// Writes of zeros for the ranges that have bytes.
+fn buffers(alloc: Global, ranges: &[Range]) -> Result<Vec<Write>, AllocError>
+    ensures { IfOk result (λ v. map range_of v.items ≡ filter (λ p. not (p.size == 0)) ranges.now) }
 {
-    if bytes.is_empty() {
-        return writes;
+    let mut writes = Vec::new(alloc);
+    for range in ranges {
+        if range.size > 0 {
+            let bytes = vec![in alloc; 0u8; range.size as usize]?;
+            writes.push(Write {
+                at: range.at,
+                bytes,
+            })?;
+        }
     }
-    writes.push(Write { at, bytes }).unwrap();
-    writes
+    Ok(writes)
 }
 
-/// The address and the size of the buffer of read.
-///
-/// # Errors
-/// The result of the call, where a test of it fails.
-fn read_buffer(guest: &Guest) -> Result<(u32, u32), u32>
-    ensures { MatchResult result (λ buffer. IsBuffer (machine guest.now) buffer.0 buffer.1)
-        (λ answer. (w : World) → read_row (machine guest.now) w ≡ went (machine guest.now) w answer []) }
+// Gives a write the first of these bytes, as many as it has room for, and answers how many.
+fn deal_one(bytes: &[u8], write: &mut Write) -> usize
+    ensures write { write.new ≡ record { at = write.old.at; bytes = take (length write.old.bytes) bytes.now } }
+    ensures count { result ≡ length (take (length write.old.bytes) bytes.now) }
 {
-    if guest.reg(10) != 0 {
-        return Err(BAD_FILE);
-    }
-    let at = guest.reg(11);
-    let size = guest.reg(12).min(MOST_READ);
-    if !guest.space().writable(at, size) {
-        return Err(BAD_ADDRESS);
-    }
-    Ok((at, size))
+    let count = bytes.len().min(write.bytes.len());
+    write.bytes.truncate(count);
+    write.bytes.copy_from_slice(&bytes[..count]);
+    count
 }
 
-/// Reads into a buffer that may be written.
-fn read_into<H: Host>(
+// Gives these bytes to the writes in order. Writes that get none are dropped.
+fn deal(bytes: &[u8], writes: &mut Vec<Write>)
+    requires { list_all (λ s. not (length s.bytes == 0)) writes.old.items ≡ true }
+    ensures { writes.new.items ≡ filled (map range_of writes.old.items) bytes.now }
+{
+    let mut done = 0;
+    let mut used = 0;
+    while used < writes.len() && done < bytes.len() {
+        done += deal_one(&bytes[done..], &mut writes[used]);
+        used += 1;
+    }
+    writes.truncate(used);
+}
+
+// Takes bytes from the front of the input for these ranges. All memory is taken before the input is asked.
+//
+// # Errors
+// `InputFault` where the input could not be read: it then lacks what was taken before. `NoMemory`.
+fn take_input<H: Host>(alloc: Global, host: &mut H, ranges: &[Range]) -> Result<Taken, CallFault>
+    requires { total_size ranges.now ≤ MOST_READ }
+    ensures fills { IfOk result (λ r. FillsRanges ranges.now (H.told host.old) r.count r.writes.items) }
+    ensures told { MatchResult result (λ _. H.told host.new ≡ input_taken (total_size ranges.now) (H.told host.old))
+        (λ e. FaultTakes e (total_size ranges.now) (H.told host.old) (H.told host.new)) }
+    ensures faults { CausedIn source_of (H.faults host.old) (H.faults host.new) result }
+{
+    let mut writes = buffers(alloc, ranges)?;
+    let mut bytes = vec![in alloc; 0u8; size_of(ranges)]?;
+    let Ok(count) = fill(host, &mut bytes) else {
+        return Err(CallFault::InputFault);
+    };
+    deal(&bytes[..count], &mut writes);
+    Ok(Taken {
+        count: count as u32,
+        writes,
+    })
+}
+
+// Takes bytes from the front of the input into ranges that may be written.
+fn take_into<H: Host>(
     alloc: Global,
     guest: &mut Guest,
     host: &mut H,
-    at: u32,
-    size: u32,
+    ranges: &[Range],
 ) -> Result<Served, CallFault>
-    requires number { call_number (machine guest.old) ≡ 63 }
-    requires frames { CallHasFrames guest.old }
-    requires buffer { IsBuffer (machine guest.old) at size }
-    ensures told { (t : Told) (w : World) (before : List Sent) → H.told host.old ≡ stands_at t w before →
-        ServeGives t w before (reads (machine guest.old) w size) result guest.old guest.new (H.told host.new) }
-    ensures faults { MatchResult result (λ _. H.faults host.new ≡ H.faults host.old)
-        (λ e. Caused (source_of e) (H.faults host.old) (H.faults host.new)) }
-    ensures supported { (n : ℕ) → result ≢ Err (CallFault.Unsupported n) }
-    ensures ports { IfErr result IsOfGuest }
-    ensures kept { OnErr result (guest.new ≡ guest.old) }
-    ensures all_frames { guest.new.memory.frames ≡ guest.old.memory.frames }
+    requires few { total_size ranges.now ≤ MOST_READ }
+    requires writable { list_all (λ r. can_write guest.old.machine r.at r.size) ranges.now ≡ true }
+    requires frames { HasAllFrames guest.old.frames ranges.now }
+    ensures { IsServed (Some (Takes ranges.now)) (H.told host.old) (H.told host.new)
+        (H.faults host.old) (H.faults host.new) result guest.old guest.new }
 {
-    let room = Vec::with_capacity(alloc, 1)?;
-    let zeros = vec![in alloc; 0u8; size as usize]?;
-    match next_input(host, zeros) {
-        Ok(bytes) => {
-            let count = bytes.len() as u32;
-            Ok(finish_storing(guest, count, written(at, bytes, room)))
-        }
-        Err(_) => Err(CallFault::InputFault),
-    }
+    let taken = take_input(alloc, host, ranges)?;
+    Ok(finish_storing(guest, taken.count, taken.writes))
 }
 
 /// The call read: the first bytes of the input left go to a buffer.
 ///
 /// # Errors
-/// `InputFault` where the input could not be read, `NoMemory` where there is no memory for what is read.
+/// `InputFault` where the input could not be read; `NoMemory` where there is no memory for what is read.
 pub(crate) fn read_call<H: Host>(
     alloc: Global,
     guest: &mut Guest,
     host: &mut H,
 ) -> Result<Served, CallFault>
-    requires number { call_number (machine guest.old) ≡ 63 }
-    requires frames { CallHasFrames guest.old }
-    ensures told { (t : Told) (w : World) (before : List Sent) → H.told host.old ≡ stands_at t w before →
-        ServeGives t w before (read_row (machine guest.old) w) result guest.old guest.new (H.told host.new) }
-    ensures faults { MatchResult result (λ _. H.faults host.new ≡ H.faults host.old)
-        (λ e. Caused (source_of e) (H.faults host.old) (H.faults host.new)) }
-    ensures supported { (n : ℕ) → result ≢ Err (CallFault.Unsupported n) }
-    ensures ports { IfErr result IsOfGuest }
-    ensures kept { OnErr result (guest.new ≡ guest.old) }
-    ensures all_frames { guest.new.memory.frames ≡ guest.old.memory.frames }
+    requires { HasAllFrames guest.old.frames (storable (read_row guest.old.machine)) }
+    ensures { IsServed (Some (read_row guest.old.machine)) (H.told host.old) (H.told host.new)
+        (H.faults host.old) (H.faults host.new) result guest.old guest.new }
 {
-    match read_buffer(guest) {
-        Ok((at, size)) => read_into(alloc, guest, host, at, size),
-        Err(answer) => Ok(finish(alloc, guest, answer)),
+    if guest.reg(10) != 0 {
+        return Ok(finish(alloc, guest, failure(EBADF)));
     }
+    let at = guest.reg(11);
+    let size = guest.reg(12).min(MOST_READ);
+    if !guest.space().writable(at, size) {
+        return Ok(finish(alloc, guest, failure(EFAULT)));
+    }
+    take_into(alloc, guest, host, &[Range { at, size }])
+}
+
+/// The call readv: the first bytes of the input left go to the ranges of an array, in order.
+///
+/// # Errors
+/// `InputFault` where the input could not be read; `NoMemory` where there is no memory for what is read.
+pub(crate) fn readv_call<H: Host>(
+    alloc: Global,
+    guest: &mut Guest,
+    host: &mut H,
+) -> Result<Served, CallFault>
+    requires { HasAllFrames guest.old.frames (storable (readv_row guest.old.machine)) }
+    ensures { IsServed (Some (readv_row guest.old.machine)) (H.told host.old) (H.told host.new)
+        (H.faults host.old) (H.faults host.new) result guest.old guest.new }
+{
+    if guest.reg(10) != 0 {
+        return Ok(finish(alloc, guest, failure(EBADF)));
+    }
+    let array = guest.reg(11);
+    let count = guest.reg(12);
+    if count > MOST_RANGES {
+        return Ok(finish(alloc, guest, failure(EINVAL)));
+    }
+    if !guest.space().readable(array, 8 * count) {
+        return Ok(finish(alloc, guest, failure(EFAULT)));
+    }
+    let ranges = used_ranges(guest);
+    if !are_writable(guest.space(), &ranges) {
+        return Ok(finish(alloc, guest, failure(EFAULT)));
+    }
+    take_into(alloc, guest, host, &ranges)
 }

@@ -2,17 +2,15 @@
 #![tactic(auto)]
 
 mod clock;
-mod errors;
 mod fault;
+mod finish;
 mod input;
-pub mod laws;
+mod maps;
 mod output;
-mod pieces;
+mod ranges;
 mod server;
-mod simple;
 #[cfg(test)]
 mod tests;
-mod vectors;
 
 pub use fault::{CallFault, RunFault};
 pub use server::{Served, serve};

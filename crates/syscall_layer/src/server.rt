@@ -1,34 +1,24 @@
 // The call at which a guest stands.
-ghost use Rattle.std.specs.Prelude.{◌≡◌, ◌↔◌, ℕ, List, Err, IfErr, MatchResult, OnErr};
-ghost use Rattle.sp_host.specs.Told.{Told};
-ghost use Rattle.sp_host.specs.Faults.{Caused};
-ghost use Rattle.guest_model.specs.Call.{World, Sent, Untabled, call_of};
+ghost use Rattle.std.specs.Prelude.{◌≡◌};
+ghost use Rattle.sp_host.specs.Faults.{CausedIn};
+ghost use Rattle.guest_model.specs.Calls.{deed_of};
 ghost use Rattle.guest_model.specs.Effect.{Effect, effect_of};
-ghost use Rattle.rv_machine.specs.Guest.{machine};
-ghost use Rattle.syscall_layer.specs.Serve.{at, source_of, IsOfGuest, ServeGives};
-ghost use Rattle.syscall_layer.specs.Frames.{CallHasFrames};
+ghost use Rattle.guest_model.specs.Written.{written_by};
+ghost use Rattle.guest_mem.specs.Frames.{HasAllFrames};
+ghost use Rattle.syscall_layer.specs.Serve.{AnswersCall, TellsDeed, source_of};
 
 use crate::clock::clock_call;
 use crate::fault::CallFault;
-use crate::input::read_call;
-use crate::output::{write_call, writev_call};
-use crate::simple::serve_inside;
-use crate::vectors::readv_call;
+use crate::finish::finish;
+use crate::input::{read_call, readv_call};
+use crate::maps::{brk_call, mmap2_call, munmap_call};
+use crate::output::{ioctl_answer, write_call, writev_call};
 use call_record::Record;
+use guest_model::SystemCall;
+use guest_model::platform::PROCESS;
 use rv_machine::Guest;
 use sp_host::Host;
 use std::alloc::Global;
-
-// The numbers of the calls that reach the outside (Linux, asm-generic/unistd.h).
-const READ: u32 = 63;
-
-const WRITE: u32 = 64;
-
-const READV: u32 = 65;
-
-const WRITEV: u32 = 66;
-
-const CLOCK_GETTIME64: u32 = 403;
 
 /// How a call was served.
 #[derive(Drop)]
@@ -42,26 +32,40 @@ pub enum Served {
 /// Serves the call at which the guest stands.
 ///
 /// # Errors
-/// `Unsupported` exactly where no call has the number in x17; `InputFault` and `OutputFault` exactly where a call of that kind
-/// failed; `NoMemory` where there is no memory for what is read. The guest is as before then.
+/// `Unsupported` exactly where no call has the number in x17; `InputFault` and `OutputFault` exactly where a call of the host of
+/// that kind failed; `NoMemory` where there is no memory for what is read. The guest is as before then.
 pub fn serve<H: Host>(alloc: Global, guest: &mut Guest, host: &mut H) -> Result<Served, CallFault>
-    requires call { effect_of (machine guest.old) ≡ Effect.Call }
-    requires frames { CallHasFrames guest.old }
-    ensures told { (t : Told) (w : World) (before : List Sent) → H.told host.old ≡ at t w before →
-        ServeGives t w before (call_of (machine guest.old) w) result guest.old guest.new (H.told host.new) }
-    ensures faults { MatchResult result (λ _. H.faults host.new ≡ H.faults host.old)
-        (λ e. Caused (source_of e) (H.faults host.old) (H.faults host.new)) }
-    ensures unsupported { (w : World) (number : ℕ) → (result ≡ Err (CallFault.Unsupported number)) ↔ (call_of (machine guest.old) w ≡ Untabled number) }
-    ensures ports { IfErr result IsOfGuest }
-    ensures kept { OnErr result (guest.new ≡ guest.old) }
-    ensures all_frames { guest.new.memory.frames ≡ guest.old.memory.frames }
+    requires call { effect_of guest.old.machine ≡ Effect.Call }
+    requires frames { HasAllFrames guest.old.frames (written_by guest.old.machine) }
+
+    // Whatever the host is: the record and the guest after it, and the cause of each fault.
+    ensures answer { AnswersCall (deed_of guest.old.machine) result guest.old guest.new }
+    ensures faults { CausedIn source_of (H.faults host.old) (H.faults host.new) result }
+
+    // Where the host tells: the answer is that of the call's row, and the outside changed by exactly that call.
+    ensures told { TellsDeed (deed_of guest.old.machine) (H.told host.old) result guest.old guest.new
+        (H.told host.new) }
 {
-    match guest.reg(17) {
-        READ => read_call(alloc, guest, host),
-        WRITE => write_call(alloc, guest, host),
-        READV => readv_call(alloc, guest, host),
-        WRITEV => writev_call(alloc, guest, host),
-        CLOCK_GETTIME64 => clock_call(alloc, guest, host),
-        _ => serve_inside(alloc, guest),
+    let number = guest.reg(17);
+    let Some(call) = SystemCall::numbered(number) else {
+        return Err(CallFault::Unsupported { number });
+    };
+    match call {
+        SystemCall::Ioctl => {
+            let answer = ioctl_answer(guest);
+            Ok(finish(alloc, guest, answer))
+        }
+        SystemCall::Read => read_call(alloc, guest, host),
+        SystemCall::Write => write_call(alloc, guest, host),
+        SystemCall::Readv => readv_call(alloc, guest, host),
+        SystemCall::Writev => writev_call(alloc, guest, host),
+        SystemCall::Exit | SystemCall::ExitGroup => Ok(Served::Exit((guest.reg(10) % 256) as u8)),
+        SystemCall::SetTidAddress | SystemCall::Getpid | SystemCall::Gettid => {
+            Ok(finish(alloc, guest, PROCESS))
+        }
+        SystemCall::Brk => Ok(brk_call(alloc, guest)),
+        SystemCall::Munmap => Ok(munmap_call(alloc, guest)),
+        SystemCall::Mmap2 => Ok(mmap2_call(alloc, guest)),
+        SystemCall::ClockGettime64 => clock_call(alloc, guest, host),
     }
 }
