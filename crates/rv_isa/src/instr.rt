@@ -9,11 +9,11 @@ use std::marker::Model;
 /// shift's is its amount, and that of `lui` and `auipc` is a multiple of 4,096. Fields that its form lacks are 0.
 #[derive(Clone, Copy, Debug, PartialEq, Eq)]
 pub struct Instr {
+    pub op: Op,
     pub rd: u8,
     pub rs1: u8,
     pub rs2: u8,
     pub imm: i32,
-    pub op: Op,
 }
 
 impl Model for Instr {
@@ -23,7 +23,7 @@ impl Model for Instr {
 
     ghost invariant = { λ i. IsInstr (record { op = i.op; rd = i.rd; rs1 = i.rs1; rs2 = i.rs2; imm = i.imm }) };
 
-    ghost inverse = { λ f. record { rd = f.rd; rs1 = f.rs1; rs2 = f.rs2; imm = f.imm; op = f.op } };
+    ghost inverse = { λ f. record { op = f.op; rd = f.rd; rs1 = f.rs1; rs2 = f.rs2; imm = f.imm } };
 }
 
 impl Instr {
@@ -33,11 +33,11 @@ impl Instr {
         ensures { result ≡ record { op = op; rd = rd; rs1 = rs1; rs2 = rs2; imm = imm } }
     {
         Instr {
+            op,
             rd,
             rs1,
             rs2,
             imm,
-            op,
         }
     }
 }
