@@ -8,8 +8,6 @@ pub mod instr;
 pub mod kinds;
 pub mod laws;
 pub mod op;
-#[cfg(test)]
-mod tests;
 pub mod text;
 pub mod view;
 mod word;
