@@ -7,7 +7,7 @@ use std::marker::Model;
 
 /// An instruction. The registers `rd`, `rs1` and `rs2` are numbers below 32. The immediate `imm` has its sign; a
 /// shift's is its amount, and that of `lui` and `auipc` is a multiple of 4,096. Fields that its form lacks are 0.
-#[derive(Clone, Copy, Debug, PartialEq, Eq)]
+#[derive(Clone, Copy, PartialEq, Eq)]
 pub struct Instr {
     pub op: Op,
     pub rd: u8,

@@ -6,7 +6,7 @@ use crate::instr::Instr;
 use crate::op::Op;
 
 /// What a jump does to the stack of return addresses. `PopPush` pops, then pushes.
-#[derive(Clone, Copy, Debug, PartialEq, Eq)]
+#[derive(Clone, Copy, PartialEq, Eq)]
 pub enum Link {
     None,
     Push,

@@ -5,7 +5,7 @@ ghost use Rattle.rv_isa.specs.Forms.{form_of, opcode_of, f3_of, f7_of};
 ghost use Rattle.rv_isa.specs.Text.{name_of};
 
 /// An instruction's name, in the order of the tables of RV32I and of its M extension.
-#[derive(Clone, Copy, Debug, PartialEq, Eq)]
+#[derive(Clone, Copy, PartialEq, Eq)]
 pub enum Op {
     Lui,
     Auipc,
@@ -59,7 +59,7 @@ pub enum Op {
 
 /// Where a word keeps an instruction's fields: the manual's base formats, `Shift` for an I whose immediate is an
 /// amount of 5 bits, and `Bare` for the words of fence, ecall and ebreak, which keep none.
-#[derive(Clone, Copy, Debug, PartialEq, Eq)]
+#[derive(Clone, Copy, PartialEq, Eq)]
 pub enum Form {
     R,
     I,

@@ -3,7 +3,7 @@ use crate::instr::Instr;
 
 /// A step: the instruction at `pc`, whether it begins a block (`fresh`), the registers before and after it, and the
 /// next pc. `next` is None where the instruction did not complete, and `after` then equals `before`.
-#[derive(Clone, Copy, Debug, PartialEq, Eq)]
+#[derive(Clone, Copy, PartialEq, Eq)]
 pub struct StepView {
     pub pc: u32,
     pub instr: Instr,
