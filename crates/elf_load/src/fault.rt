@@ -3,7 +3,7 @@ use std::alloc::AllocError;
 
 /// Why a file is not loaded. The faults stand in the order of the tests: the first that fails is the answer.
 /// `k` is the place of a segment's header in the program header table, from 0.
-#[derive(Debug, Clone, Copy, PartialEq, Eq)]
+#[derive(Clone, Copy, PartialEq, Eq)]
 pub enum ElfFault {
     /// The file is shorter than a file header, 52 bytes.
     TooShort,

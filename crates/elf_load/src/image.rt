@@ -128,3 +128,11 @@ fn up_to_zero(bytes: &[u8]) -> &[u8]
 {
     &bytes[..name_length(bytes)]
 }
+
+// Takes only what can be moved between threads.
+fn movable<T: Send>(_value: &T) {}
+
+// An image can.
+fn movable_image(image: &Image) {
+    movable(image);
+}
