@@ -3,8 +3,6 @@
 
 mod log;
 mod record;
-#[cfg(test)]
-mod tests;
 
 pub use log::RecordLog;
 pub use record::{Record, Write};

@@ -86,3 +86,11 @@ impl RecordLog {
         mem::replace(&mut self.records, Vec::new(self.alloc))
     }
 }
+
+// Takes only what can be moved between threads.
+fn movable<T: Send>(_value: &T) {}
+
+// A log can, and so can its records.
+fn movable_log(log: &RecordLog) {
+    movable(log);
+}
