@@ -3,7 +3,5 @@
 
 mod pages;
 mod places;
-#[cfg(test)]
-mod tests;
 
 pub use pages::Pages;
