@@ -7,8 +7,6 @@ pub mod laws;
 mod number;
 mod rights;
 mod space;
-#[cfg(test)]
-mod tests;
 
 pub use guest_model::{Access, Area};
 pub use space::{Denied, Space};

@@ -27,7 +27,7 @@ use std::marker::Model;
 const PAGES: usize = 1_048_576;
 
 /// An access that the areas do not permit.
-#[derive(Clone, Copy, PartialEq, Eq, Debug)]
+#[derive(Clone, Copy, PartialEq, Eq)]
 pub struct Denied;
 
 /// A guest's memory. Contracts see it as one flat map of bytes with its areas, and the frames of its pages.
