@@ -96,3 +96,11 @@ impl Guest {
         self.fresh = true;
     }
 }
+
+// Takes only what can be moved between threads.
+fn movable<T: Send>(_value: &T) {}
+
+// A guest can.
+fn movable_guest(guest: &Guest) {
+    movable(guest);
+}

@@ -4,12 +4,8 @@
 mod decoded;
 mod guest;
 mod load;
-#[cfg(test)]
-mod load_tests;
 mod stack;
 mod step;
-#[cfg(test)]
-mod tests;
 
 pub use guest::Guest;
 pub use load::LoadFault;

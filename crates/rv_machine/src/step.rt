@@ -11,7 +11,7 @@ use crate::guest::Guest;
 use rv_isa::{Instr, Op, alu, is_taken, is_terminator, loaded, mem_size};
 
 /// The kinds of faults, by the numbers of their signals.
-#[derive(Clone, Copy, Debug, PartialEq, Eq)]
+#[derive(Clone, Copy, PartialEq, Eq)]
 pub enum FaultKind {
     /// A word that is no instruction (SIGILL).
     Illegal = 4,
@@ -24,7 +24,7 @@ pub enum FaultKind {
 }
 
 /// What a step answers. At a call and at a fault nothing changed.
-#[derive(Clone, Copy, Debug, PartialEq, Eq)]
+#[derive(Clone, Copy, PartialEq, Eq)]
 pub enum Stepped {
     Next,
     Call,
@@ -32,7 +32,7 @@ pub enum Stepped {
 }
 
 /// How a run ends.
-#[derive(Clone, Copy, Debug, PartialEq, Eq)]
+#[derive(Clone, Copy, PartialEq, Eq)]
 pub enum End {
     /// By a call, with this status.
     Exit(u8),
