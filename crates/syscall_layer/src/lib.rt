@@ -9,8 +9,6 @@ mod maps;
 mod output;
 mod ranges;
 mod server;
-#[cfg(test)]
-mod tests;
 
 pub use fault::{CallFault, RunFault};
 pub use server::{Served, serve};
