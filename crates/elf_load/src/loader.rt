@@ -54,7 +54,7 @@ pub fn load(alloc: Global, file: &[u8]) -> Result<Image, ElfFault>
     ensures { MatchResult result
         (λ image. (refusal_of file.now ≡ None) × (image ≡ image_of file.now))
         (λ fault. ((refusal_of file.now ≡ None) × (fault ≡ ElfFault.NoMemory))
-            ⊎ (refusal_of file.now ≡ Some fault)) }
+        ⊎ (refusal_of file.now ≡ Some fault)) }
 {
     if let Some(fault) = identification_fault(file) {
         return Err(fault);

@@ -26,11 +26,17 @@ returns-then-are_bad_symbols c =
     c.are_bad_symbols.result c.in_default-segment_fault.ensures c.are_bad_symbols.ensures c.if-are_bad_symbols.true)
 
 pub returns-in-Ok : goal.returns-in-Ok
-returns-in-Ok c = (by_none c.args.file.now c.file_header-header.result c.file_header-header.ensures c.in_default.ensures.first
-    c.as_slice-headers.result.now (c.as_slice-headers.ensures.value ∙ c.program_headers-headers.ensures) c.in_default-header_fault.ensures.first
-    c.are_bad_symbols.result c.in_default-segment_fault.ensures c.are_bad_symbols.ensures c.if-are_bad_symbols.false, c.in-Ok.ensures)
+returns-in-Ok c = (
+  by_none c.args.file.now c.file_header-header.result c.file_header-header.ensures c.in_default.ensures.first
+      c.as_slice-headers.result.now (c.as_slice-headers.ensures.value ∙ c.program_headers-headers.ensures) c.in_default-header_fault.ensures.first
+      c.are_bad_symbols.result c.in_default-segment_fault.ensures c.are_bad_symbols.ensures c.if-are_bad_symbols.false,
+  c.in-Ok.ensures,
+)
 
 pub returns-in-Err : goal.returns-in-Err
-returns-in-Err c = inl (by_none c.args.file.now c.file_header-header.result c.file_header-header.ensures c.in_default.ensures.first
-    c.as_slice-headers.result.now (c.as_slice-headers.ensures.value ∙ c.program_headers-headers.ensures) c.in_default-header_fault.ensures.first
-    c.are_bad_symbols.result c.in_default-segment_fault.ensures c.are_bad_symbols.ensures c.if-are_bad_symbols.false, refl)
+returns-in-Err c = inl (
+  by_none c.args.file.now c.file_header-header.result c.file_header-header.ensures c.in_default.ensures.first
+      c.as_slice-headers.result.now (c.as_slice-headers.ensures.value ∙ c.program_headers-headers.ensures) c.in_default-header_fault.ensures.first
+      c.are_bad_symbols.result c.in_default-segment_fault.ensures c.are_bad_symbols.ensures c.if-are_bad_symbols.false,
+  refl,
+)
