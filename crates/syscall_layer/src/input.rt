@@ -1,6 +1,6 @@
 // The calls that read.
 ghost use Rattle.std.specs.Prelude.{◌≡◌, ◌≤◌, ◌==◌, true, [], ◌∷◌, Some, length, map, filter, not};
-ghost use Rattle.std.specs.Prelude.{IfOk, MatchResult};
+ghost use Rattle.std.specs.Prelude.{take, IfOk, MatchResult};
 ghost use Rattle.std.specs.List.{list_all};
 ghost use Rattle.sp_host.specs.Told.{WhereTold, input_taken};
 ghost use Rattle.sp_host.specs.Faults.{CausedIn, Counts};

@@ -1,11 +1,11 @@
 // The call at which a guest stands.
-ghost use Rattle.std.specs.Prelude.{◌≡◌};
+ghost use Rattle.std.specs.Prelude.{◌≡◌, Some};
 ghost use Rattle.sp_host.specs.Faults.{CausedIn};
-ghost use Rattle.guest_model.specs.Calls.{deed_of};
+ghost use Rattle.guest_model.specs.Calls.{deed_of, row_of, storable};
 ghost use Rattle.guest_model.specs.Effect.{Effect, effect_of};
 ghost use Rattle.guest_model.specs.Written.{written_by};
 ghost use Rattle.guest_mem.specs.Frames.{HasAllFrames};
-ghost use Rattle.syscall_layer.specs.Serve.{AnswersCall, TellsDeed, source_of};
+ghost use Rattle.syscall_layer.specs.Serve.{AnswersCall, IsServed, TellsDeed, source_of};
 
 use crate::clock::clock_call;
 use crate::fault::CallFault;
@@ -47,9 +47,23 @@ pub fn serve<H: Host>(alloc: Global, guest: &mut Guest, host: &mut H) -> Result<
         (H.told host.new) }
 {
     let number = guest.reg(17);
-    let Some(call) = SystemCall::numbered(number) else {
-        return Err(CallFault::Unsupported { number });
-    };
+    match SystemCall::numbered(number) {
+        Some(call) => serve_row(alloc, guest, host, call),
+        None => Err(CallFault::Unsupported { number }),
+    }
+}
+
+// Serves a call of this row.
+fn serve_row<H: Host>(
+    alloc: Global,
+    guest: &mut Guest,
+    host: &mut H,
+    call: SystemCall,
+) -> Result<Served, CallFault>
+    requires { HasAllFrames guest.old.frames (storable (row_of call guest.old.machine)) }
+    ensures { IsServed (Some (row_of call guest.old.machine)) (H.told host.old) (H.told host.new)
+        (H.faults host.old) (H.faults host.new) result guest.old guest.new }
+{
     match call {
         SystemCall::Ioctl => {
             let answer = ioctl_answer(guest);

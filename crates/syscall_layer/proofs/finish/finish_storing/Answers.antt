@@ -1,20 +1,46 @@
-use Rattle.std.proofs.Common.{◌≡◌, ◌∙◌, ap, subst, sym, ℕ, List, map}
-use Rattle.call_record.specs.Record.{Stored}
-use Rattle.guest_model.specs.Call.{finished, record_of, store_all, with_space}
-use Rattle.guest_model.specs.Machine.{Machine}
+use Rattle.std.proofs.Common.{◌≡◌, ◌∙◌, true, ap, subst, sym, List, map, length}
+use Rattle.std.specs.List.{list_all}
+use Rattle.call_record.specs.Record.{CallRecord, Stored}
+use Rattle.guest_model.specs.Areas.{is_range_permitted}
+use Rattle.guest_model.specs.Call.{finished, record_of, store_all}
 use Rattle.guest_model.specs.Space.{Space, with_bytes}
+use Rattle.guest_model.specs.declared.Access.TheVariants.{Write}
 use Rattle.guest_mem.specs.Frames.{Frames, HasAllFrames, TakesFrames}
 use Rattle.guest_mem.specs.Memory.{Memory}
+use Rattle.rv_machine.specs.Guest.{GuestState}
 use Rattle.syscall_layer.specs.Serve.{range_of}
 use Rattle.syscall_layer.specs.declared.server.Served.TheVariants as served
-use Rattle.syscall_layer.proofs.Deeds.{same_space, finished_stored}
+use Rattle.syscall_layer.proofs.Finished.{same_space, finished_with}
 use Rattle.syscall_layer.proofs.finish.finish_storing.Goals as goal
 
 pub put_all-requires-clause-writable : goal.put_all-requires-clause-writable
-put_all-requires-clause-writable c = ?
+put_all-requires-clause-writable c =
+    let test = λ (s : Space) (ws : List Stored). list_all (λ w. is_range_permitted Write s.areas w.at (length w.bytes)) ws in
+    ap (λ (m : Memory). test m.space c.deref.result.now) (c.space_mut.ensures.memory)
+    ∙ ap (λ (s : Space). test s c.deref.result.now) (same_space c.args.guest.now.machine c.finish_call.new.self.machine c.args.answer c.finish_call.ensures.machine)
+    ∙ ap (test c.args.guest.now.machine.space) c.deref.ensures.value
+    ∙ c.requires.writable
 
 pub put_all-requires-clause-frames : goal.put_all-requires-clause-frames
-put_all-requires-clause-frames c = ?
+put_all-requires-clause-frames c =
+    let same : c.space_mut.result.now.frames ≡ c.args.guest.now.frames = ap (λ (m : Memory). m.frames) c.space_mut.ensures.memory ∙ c.finish_call.ensures.frames in
+    subst (λ (f : Frames). HasAllFrames f (map range_of c.deref.result.now)) (sym same)
+    (subst (λ (ws : List Stored). HasAllFrames c.args.guest.now.frames (map range_of ws)) (sym c.deref.ensures.value) c.requires.frames)
 
 pub returns : goal.returns
-returns c = ?
+returns c =
+    let old = c.args.guest.now in
+    let answer = c.args.answer in
+    let ws = c.args.writes.items in
+    let same : c.space_mut.result.now.frames ≡ old.frames = ap (λ (m : Memory). m.frames) c.space_mut.ensures.memory ∙ c.finish_call.ensures.frames in
+    let space =
+    c.put_all.ensures.space
+    ∙ ap (λ (m : Memory). with_bytes m.space (store_all m.space.bytes c.deref.result.now)) c.space_mut.ensures.memory
+    ∙ ap (λ (s : Space). with_bytes s (store_all s.bytes c.deref.result.now)) (same_space old.machine c.finish_call.new.self.machine answer c.finish_call.ensures.machine)
+    ∙ ap (λ (qs : List Stored). with_bytes old.machine.space (store_all old.machine.space.bytes qs)) c.deref.ensures.value in
+    record {
+      served = ap (λ n. served.Went (record { number = n; answer = answer; stored = ws })) c.reg-number.ensures;
+      machine = finished_with old.machine c.finish_call.new.self.machine answer c.put_all.new.space.space (with_bytes old.machine.space (store_all old.machine.space.bytes ws)) c.finish_call.ensures.machine space;
+      frames = subst (λ (f : Frames). TakesFrames f c.put_all.new.space.frames (map range_of ws)) same
+          (subst (λ (qs : List Stored). TakesFrames c.space_mut.result.now.frames c.put_all.new.space.frames (map range_of qs)) c.deref.ensures.value c.put_all.ensures.frames);
+    }

@@ -16,6 +16,7 @@ returns-clause-fills g c =
     record {
       bytes = take c.in-Ok.count c.deref.result.now;
       counted = sym (length-take-le c.in-Ok.count c.deref.result.now within);
+      few = omega (arith, within, length-take-le c.in-Ok.count c.deref.result.now within, c.in-Ok.ensures.bound, total);
       fills = c.deal.ensures ∙ ap (λ (ps : List Range). filled ps (take c.in-Ok.count c.deref.result.now)) c.in_ok-writes.ensures ∙ filled_kept c.args.ranges.now (take c.in-Ok.count c.deref.result.now);
       taken = λ left is.
           ap (λ (xs : List ℕ). take c.in-Ok.count xs) whole ∙ (c.in-Ok.ensures.bytes left is).bytes ∙ ap (λ (k : ℕ). take k left) total;

@@ -1,16 +1,16 @@
 use Rattle.std.proofs.Common.{◌≡◌, take}
 use Rattle.std.specs.List.{flat_map}
 use Rattle.sp_host.specs.Told.{sent}
-use Rattle.guest_model.specs.Call.{range_bytes, ranges}
-use Rattle.rv_machine.specs.Guest.{machine}
-use Rattle.syscall_layer.proofs.output.send_ranges.Given as goal
+use Rattle.guest_model.specs.Calls.{range_bytes, array_of}
+use Rattle.rv_machine.specs.Guest.{GuestState}
+use Rattle.syscall_layer.proofs.output.send_array.Given as goal
 
 abbrev pub invariant-loop-k : goal.invariant-loop-k
 invariant-loop-k g l =
     let told = g.H.Host.told in
     let faults = g.H.Host.faults in
-    let m = machine l.guest in
+    let m = l.guest.machine in
     record {
-      same_told : told l.host ≡ sent l.port (flat_map (range_bytes m) (take l.k (ranges m))) (told l.fn.host);
+      same_told : told l.host ≡ sent l.port (flat_map (range_bytes m) (take l.k (array_of m))) (told l.fn.host);
       same_faults : faults l.host ≡ faults l.fn.host;
     }

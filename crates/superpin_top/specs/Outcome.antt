@@ -1,0 +1,135 @@
+-- What is answered, and what stands where then.
+use Rattle.std.specs.Prelude.{◌≡◌, ◌≢◌, ℕ, ◌-◌, ◌^◌, ◌<◌, ◌||◌, true, List, [], ◌++◌, Option, None, Some, Result, Ok, Err, ◌⊎◌, ◌↔◌}
+use Rattle.sp_host.specs.Told.{Told, Files, appended, sent as sent_to, PartSent}
+use Rattle.sp_host.specs.Faults.{To, Faults, Faulted}
+use Rattle.sp_host.specs.declared.host.Port.TheVariants.{Report}
+use Rattle.guest_model.specs.Call.{World}
+use Rattle.guest_model.specs.Serial.{sent_at}
+use Rattle.syscall_layer.specs.Serve.{PartWritten}
+use Rattle.superpin_top.specs.Run.{Run, LacksMemory, StopsInput, StepBefore}
+use Rattle.superpin_top.specs.Report.{refusal_line}
+use Rattle.superpin_top.specs.Due.{Due, Program, delivered, due_program, run_of_program}
+use Rattle.superpin_top.specs.Causes.{CausedBy, is_early, is_of_run}
+use Rattle.superpin_top.specs.declared.answer.Answer.{Answer}
+use Rattle.superpin_top.specs.declared.answer.Answer.TheVariants.{Ended, Refused}
+use Rattle.superpin_top.specs.declared.answer.Refusal.{Refusal}
+use Rattle.superpin_top.specs.declared.answer.Refusal.TheVariants as refusals
+
+-- holds of the files and of the input and moments left, where they are told
+abbrev pub WhereAllTold : Told → (Files → World → Type 0) → Type 0
+WhereAllTold t P = (files : Files) (w : World) → t.files ≡ Some files → t.input ≡ Some w.input → t.moments ≡ Some w.moments → P files w
+
+-- the due answer is this one, and its bytes but for the report were written
+pub record IsDue (t : Told) (d : Due) (answer : Answer) (new : Told) : Type 0 where
+  pub answer_is : d.answer ≡ answer
+  pub told_is : new ≡ delivered t d []
+
+-- a step of the program's run
+abbrev pub StepOf : Result Program Refusal → World → (Run → Type 0) → Type 0
+StepOf program w P = (p : Program) × (program ≡ Ok p) × P (run_of_program p w)
+
+-- The places at which the outside stands when a run is refused, before the line of the refusal is written.
+-- After a file fault nothing was written. A refusal that is due comes with the due bytes: none before a run, and in a run those
+-- of the steps that ran. After an input fault they are the bytes of the steps before a call that reads, and a beginning of
+-- what it asks for was taken from the input. After an output fault they are the bytes of the steps before a call that writes,
+-- and a proper beginning of that call's. After a report fault they are the whole run's, and a proper beginning of the report.
+-- Memory is wanting before the run, where nothing was written, before a call that takes memory, or after a run that ended.
+abbrev pub Refuses : Told → Result Program Refusal → World → Refusal → Told → Type 0
+Refuses t program w refusals.FileFault new = new ≡ t
+Refuses t program w refusals.InputFault new = StepOf program w (λ r. StepBefore r (λ q before. StopsInput t q before new))
+Refuses t program w (refusals.OutputFault port) new = StepOf program w (λ r. StepBefore r (λ q before. PartWritten t q.world before port (sent_at q) new))
+Refuses t program w refusals.ReportFault new =
+    (status : ℕ) × ((due_program program w).answer ≡ Ended status []) × PartSent Report (due_program program w).report (delivered t (due_program program w) []) new
+Refuses t program w refusals.NoMemory new =
+    (new ≡ t)
+    ⊎ (StepOf program w (λ r. StepBefore r (λ q before. LacksMemory t q before new))
+    ⊎ ((status : ℕ) × ((due_program program w).answer ≡ Ended status []) × (new ≡ delivered t (due_program program w) [])))
+Refuses t program w refusal new = IsDue t (due_program program w) (Refused refusal) new
+
+abbrev pub AttemptGives : Told → Result Program Refusal → World → Result ℕ Refusal → Told → Type 0
+AttemptGives t program w (Ok status) new = ((due_program program w).answer ≡ Ended status []) × (new ≡ delivered t (due_program program w) (due_program program w).report)
+AttemptGives t program w (Err refusal) new = Refuses t program w refusal new
+
+-- the line of a refusal was written, or a proper beginning of it where the count of Report rose
+pub record WritesLine (refusal : Refusal) (old new : Told) (before now : Faults) : Type 0 where
+  pub line : List ℕ
+  pub rest : List ℕ
+  pub is_front : line ++ rest ≡ refusal_line refusal
+  pub told_is : new ≡ sent_to Report line old
+  pub cause : ((rest ≡ []) × (now ≡ before)) ⊎ ((rest ≢ []) × Faulted (To Report) before now)
+
+-- Where the outside stood before the line of a refusal, and after it.
+pub record IsRefused (t : Told) (program : Result Program Refusal) (w : World) (refusal : Refusal) (before : Faults) (new : Told) (now : Faults) : Type 0 where
+  pub mid : Told
+  pub middle : Faults
+  pub refuses : Refuses t program w refusal mid
+  pub caused : CausedBy refusal before middle
+  pub writes : WritesLine refusal mid new middle now
+
+-- the outcome
+abbrev pub Outcome : Told → Result Program Refusal → World → Faults → Answer → Told → Faults → Type 0
+Outcome t program w before (Ended status cuts) new now =
+    ((due_program program w).answer ≡ Ended status cuts) × (new ≡ delivered t (due_program program w) (due_program program w).report) × (now ≡ before)
+Outcome t program w before (Refused refusal) new now = IsRefused t program w refusal before new now
+
+-- each count can still rise
+pub record CanRise (f : Faults) : Type 0 where
+  pub file : f.file < 2 ^ 64 - 1
+  pub input : f.input < 2 ^ 64 - 1
+  pub out : f.out < 2 ^ 64 - 1
+  pub err : f.err < 2 ^ 64 - 1
+  pub report : f.report < 2 ^ 64 - 1
+
+-- the counts of the run stand as before: that of files, of the input, of the ports that the guest can write to
+pub record NoneRose (before now : Faults) : Type 0 where
+  pub file : now.file ≡ before.file
+  pub input : now.input ≡ before.input
+  pub out : now.out ≡ before.out
+  pub err : now.err ≡ before.err
+
+-- the due answer with exactly the due bytes, or want of memory
+abbrev pub IsDelivered : Told → Due → Answer → Told → Type 0
+IsDelivered t d answer new = (answer ≡ Refused refusals.NoMemory) ⊎ ((answer ≡ d.answer) × (new ≡ delivered t d d.report))
+
+-- the program was accepted
+abbrev pub IsAccepted : Result Program Refusal → Type 0
+IsAccepted program = (p : Program) × (program ≡ Ok p)
+
+-- what the words and the file decide of an attempt; where the file could not be read, or memory was wanting, nothing
+abbrev pub IsDecided : Result Program Refusal → Result ℕ Refusal → Type 0
+IsDecided program (Ok status) = IsAccepted program
+IsDecided program (Err refusals.FileFault) = Unit {0}
+IsDecided program (Err refusals.NoMemory) = Unit {0}
+IsDecided program (Err refusals.FileTooLarge) = program ≡ Err refusals.FileTooLarge
+IsDecided program (Err (refusals.Elf fault)) = program ≡ Err (refusals.Elf fault)
+IsDecided program (Err (refusals.ArgsTooLong bytes)) = program ≡ Err (refusals.ArgsTooLong bytes)
+IsDecided program (Err refusals.NotBuilt) = program ≡ Err refusals.NotBuilt
+IsDecided program (Err _) = IsAccepted program
+
+-- a run is answered as ended only where no count rose
+abbrev pub IsEndedWhereNone : Answer → Faults → Faults → Type 0
+IsEndedWhereNone (Ended status cuts) before now = (now ≡ before) × (cuts ≡ [])
+IsEndedWhereNone (Refused refusal) before now = Unit {0}
+
+-- a refusal that the words and the file decide comes exactly where they do
+abbrev pub IsEarly : Result Program Refusal → Answer → Type 0
+IsEarly program answer = (refusal : Refusal) → is_early refusal ≡ true → (answer ≡ Refused refusal) ↔ (program ≡ Err refusal)
+
+-- where a run that ended is answered as such, and where as a fault of its report
+abbrev pub IsReported : Due → ℕ → ℕ → Answer → Type 0
+IsReported d before now answer = (status : ℕ) → d.answer ≡ Ended status [] →
+    ((answer ≡ Ended status []) ↔ (now ≡ before)) × ((answer ≡ Refused refusals.ReportFault) ↔ (before < now))
+
+-- The cause of every answer, where memory was found and no call of the run failed: it is the due one, but for a report
+-- fault, which comes exactly where the run ended and the count of Report rose.
+pub record IsCaused (d : Due) (before now : Faults) (answer : Answer) : Type 0 where
+  pub refused : (refusal : Refusal) → (is_early refusal || is_of_run refusal) ≡ true → (answer ≡ Refused refusal) ↔ (d.answer ≡ Refused refusal)
+  pub reported : IsReported d before.report now.report answer
+  pub no_report : answer ≡ Refused refusals.ReportFault → (status : ℕ) × (d.answer ≡ Ended status [])
+
+-- a beginning of these bytes was added, where told
+pub record AddsFront (old : Option (List ℕ)) (bytes : List ℕ) (new : Option (List ℕ)) : Type 0 where
+  pub written : List ℕ
+  pub rest : List ℕ
+  pub is_front : written ++ rest ≡ bytes
+  pub told_is : new ≡ appended old written

@@ -1,0 +1,96 @@
+-- The report of a run, and the lines of refusals.
+use Rattle.std.specs.Prelude.{ℕ, ◌+◌, ◌/◌, ◌%◌, ◌^◌, ◌&&◌, Bool, List, [], ◌∷◌, ◌++◌, nat_lt, nat_le, codes, count_by, if◌then◌else◌}
+use Rattle.std.specs.Fmt.{decimal}
+use Rattle.std.specs.List.{list_any}
+use Rattle.sp_host.specs.declared.host.Port.{Port}
+use Rattle.sp_host.specs.declared.host.Port.TheVariants.{Out, Err, Report}
+use Rattle.elf_load.specs.Image.{ImageFields, SegmentFields, is_executable}
+use Rattle.elf_load.specs.declared.fault.ElfFault.{ElfFault}
+use Rattle.elf_load.specs.declared.fault.ElfFault.TheVariants as elf
+use Rattle.guest_model.specs.Serial.{End, Exit, Signal, Unsupported, TraceItem}
+use Rattle.superpin_top.specs.declared.answer.Refusal.{Refusal}
+use Rattle.superpin_top.specs.declared.answer.Refusal.TheVariants as refusals
+
+-- whether the four bytes from an address on lie in one segment of code
+abbrev pub has_word : ℕ → SegmentFields → Bool
+has_word pc s = is_executable s && (nat_le s.start pc && nat_le (pc + 4) (s.start + s.size))
+
+abbrev pub is_in_code : List SegmentFields → ℕ → Bool
+is_in_code segments pc = list_any (has_word pc) segments
+
+-- How many instructions of the program a trace has. A word that runs past its segment's end can be executed, since the rest
+-- of its page is zeros, but is no instruction of the program.
+abbrev pub count_of : ImageFields → List TraceItem → ℕ
+count_of image items = count_by (λ item. is_in_code image.segments item.before.pc) items
+
+-- the text of the tool that counts instructions, and what follows it
+abbrev pub count_text : ℕ → List ℕ → List ℕ
+count_text count rest = codes "icount " ++ (decimal count ++ (codes "\n" ++ rest))
+
+-- a lower-case hexadecimal digit, and the eight of a number of 32 bits
+abbrev pub hex_digit : ℕ → ℕ
+hex_digit d = if nat_lt d 10 then 48 + d else 87 + d
+
+abbrev pub eight_digits : ℕ → List ℕ
+eight_digits n =
+    hex_digit (n / 2 ^ 28 % 16)
+    ∷ hex_digit (n / 2 ^ 24 % 16)
+    ∷ hex_digit (n / 2 ^ 20 % 16)
+    ∷ hex_digit (n / 2 ^ 16 % 16)
+    ∷ hex_digit (n / 2 ^ 12 % 16)
+    ∷ hex_digit (n / 2 ^ 8 % 16)
+    ∷ hex_digit (n / 2 ^ 4 % 16)
+    ∷ hex_digit (n % 16)
+    ∷ []
+
+abbrev pub address_text : ℕ → List ℕ
+address_text n = codes "0x" ++ eight_digits n
+
+-- the end line; a run that ends at a call without a row has none
+abbrev pub end_text : End → List ℕ
+end_text (Exit status) = codes "end exit " ++ (decimal status ++ codes "\n")
+end_text (Signal kind pc) = codes "end signal " ++ (decimal kind ++ (codes " at " ++ (address_text pc ++ codes "\n")))
+end_text (Unsupported number pc) = []
+
+abbrev pub report_of : ℕ → End → List ℕ
+report_of count end = count_text count (end_text end)
+
+abbrev pub port_name : Port → List ℕ
+port_name Out = codes "Out"
+port_name Err = codes "Err"
+port_name Report = codes "Report"
+
+-- the number and the name of a file's fault, and what it tells
+abbrev pub elf_text : ElfFault → List ℕ
+elf_text elf.TooShort = codes "1 TooShort"
+elf_text elf.NotElf = codes "2 NotElf"
+elf_text elf.NotElf32Little = codes "3 NotElf32Little"
+elf_text elf.NotExec = codes "4 NotExec"
+elf_text elf.NotRiscv = codes "5 NotRiscv"
+elf_text (elf.Flags value) = codes "6 Flags " ++ address_text value
+elf_text elf.HeaderSizes = codes "7 HeaderSizes"
+elf_text elf.TableOutOfFile = codes "8 TableOutOfFile"
+elf_text elf.Interpreter = codes "9 Interpreter"
+elf_text (elf.SegmentOutOfFile k) = codes "10 SegmentOutOfFile " ++ decimal k
+elf_text (elf.BadSegment k) = codes "11 BadSegment " ++ decimal k
+elf_text (elf.SharedPage k) = codes "12 SharedPage " ++ decimal k
+elf_text (elf.WritableCode k) = codes "13 WritableCode " ++ decimal k
+elf_text (elf.OutsideUser k) = codes "14 OutsideUser " ++ decimal k
+elf_text elf.TooManyPages = codes "15 TooManyPages"
+elf_text elf.BadEntry = codes "16 BadEntry"
+elf_text elf.BadSymbols = codes "17 BadSymbols"
+elf_text elf.NoMemory = codes "18 NoMemory"
+
+-- the line of a refusal
+abbrev pub refusal_line : Refusal → List ℕ
+refusal_line refusals.FileFault = codes "superpin: 2 file fault\n"
+refusal_line refusals.FileTooLarge = codes "superpin: 3 file too large\n"
+refusal_line (refusals.Elf fault) = codes "superpin: 4 elf " ++ (elf_text fault ++ codes "\n")
+refusal_line (refusals.ArgsTooLong bytes) = codes "superpin: 5 arguments " ++ (decimal bytes ++ codes "\n")
+refusal_line (refusals.UnsupportedCall number pc) = codes "superpin: 6 unsupported call " ++ (decimal number ++ (codes " at " ++ (address_text pc ++ codes "\n")))
+refusal_line (refusals.BudgetSpent n) = codes "superpin: 7 budget " ++ (decimal n ++ codes " spent\n")
+refusal_line refusals.InputFault = codes "superpin: 8 input fault\n"
+refusal_line (refusals.OutputFault port) = codes "superpin: 9 output fault " ++ (port_name port ++ codes "\n")
+refusal_line refusals.ReportFault = []
+refusal_line refusals.NoMemory = codes "superpin: 11 no memory\n"
+refusal_line refusals.NotBuilt = codes "superpin: 90 not built\n"

@@ -1,0 +1,78 @@
+-- The command words.
+use Rattle.std.specs.Prelude.{ℕ, ◌<◌, ◌^◌, Bool, ◌&&◌, ◌==◌, not, true, false, nat_le, nat_eq, List, [], ◌∷◌, length, map, Option, None, Some, is_some, option_and_then, codes, if◌then◌else◌, slice_index, String, string_bytes}
+use Rattle.std.specs.List.{list_all}
+use Rattle.std.specs.Option.{unwrap_or}
+use Rattle.std.specs.Str.Parse.{IsNumeral, digits_value, without_leading_plus}
+use Rattle.std.specs.declared.alloc.Global.{Global}
+use Rattle.std.specs.Cmp.Lexicographic.{pointwise}
+use Rattle.superpin_top.specs.declared.words.Options.{Options}
+
+-- the bytes of each word
+abbrev pub texts : List (String Global) → List (List ℕ)
+texts words = map (λ w. string_bytes w) words
+
+abbrev pub is_word : List ℕ → List ℕ → Bool
+is_word word bytes = pointwise nat_eq word bytes
+
+-- what is asked for: the most steps of the run, and the strings that the program gets, the first of which names its file
+pub record Request : Type 0 where
+  pub budget : ℕ
+  pub strings : List (List ℕ)
+
+-- no option was given yet: the run is not asked to be serial, and no most steps are named
+abbrev pub no_options : Options
+no_options = record { serial = false; budget = None }
+
+-- the most steps that can be asked for, and those where none are
+abbrev pub most_budget : ℕ
+most_budget = 1099511627776
+
+abbrev pub default_budget : ℕ
+default_budget = 1000000000
+
+-- decimal digits, the first of which is not 0
+abbrev pub is_digit : ℕ → Bool
+is_digit b = nat_le 48 b && nat_le b 57
+
+abbrev pub is_number : List ℕ → Bool
+is_number word = (not (length word == 0) && not (slice_index word 0 == 48)) && list_all is_digit word
+
+-- a text, with or without a plus, is no number of 64 bits
+abbrev pub IsUnread : List ℕ → Type 0
+IsUnread word = IsNumeral 10 (without_leading_plus word) × (digits_value 10 (without_leading_plus word) < 2 ^ 64) → ⊥
+
+-- a budget is a number from 1 to the most
+unfoldable pub budget_of : List ℕ → Option ℕ
+budget_of word = if is_number word && nat_le (digits_value 10 word) most_budget then Some (digits_value 10 word) else None
+
+-- a word that is no option: it does not begin with a hyphen
+abbrev pub is_plain : List ℕ → Bool
+is_plain word = not (slice_index word 0 == 45)
+
+-- the file's name and the arguments, behind the options
+abbrev pub is_form : Options → List (List ℕ) → Bool
+is_form o words = (not (length words == 0) && o.serial) && list_all is_plain words
+
+abbrev pub asked_with : Options → List (List ℕ) → Option Request
+asked_with o words = if is_form o words then Some (record { budget = unwrap_or o.budget default_budget; strings = words }) else None
+
+-- an option with its value, which may stand once
+abbrev pub with_serial : Options → List ℕ → Option Options
+with_serial o value = if is_word value (codes "serial") && not o.serial then Some (record o { serial = true }) else None
+
+abbrev pub with_budget : Options → Option ℕ → Option Options
+with_budget o None = None
+with_budget o (Some n) = if is_some o.budget then None else Some (record o { budget = Some n })
+
+-- the options stand first, each with its value in the next word
+abbrev pub behind_options : Options → List (List ℕ) → Option Request
+behind_options o (word ∷ value ∷ rest) =
+    if is_word word (codes "--by") then option_and_then (λ p. behind_options p rest) (with_serial o value)
+    else if is_word word (codes "--budget") then option_and_then (λ p. behind_options p rest) (with_budget o (budget_of value))
+    else asked_with o (word ∷ value ∷ rest)
+behind_options o words = asked_with o words
+
+-- what the words ask for: `run`, options with `--by serial` among them, the file, and its arguments
+unfoldable pub asked : List (List ℕ) → Option Request
+asked [] = None
+asked (command ∷ words) = if is_word command (codes "run") then behind_options no_options words else None

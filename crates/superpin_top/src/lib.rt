@@ -1,0 +1,13 @@
+//! The top call of `superpin`: from the command words to the answer.
+#![tactic(auto)]
+
+mod answer;
+mod program;
+mod report;
+mod run;
+mod top;
+mod words;
+
+pub use answer::{Answer, Cuts, Refusal, exit_code};
+pub use program::{answer_words, run_program};
+pub use top::superpin;

@@ -1,0 +1,68 @@
+// What the program does between the system and the top call.
+ghost use Rattle.std.specs.Prelude.{◌≡◌, IfOk, IfErr};
+ghost use Rattle.superpin_top.specs.Answer.{exit_code_of};
+ghost use Rattle.superpin_top.specs.Due.{program_of};
+ghost use Rattle.superpin_top.specs.Outcome.{Outcome, WhereAllTold, WritesLine};
+ghost use Rattle.superpin_top.specs.Words.{texts};
+ghost use Rattle.superpin_top.specs.declared.answer.Answer.{Answer};
+
+use crate::answer::{Answer, Refusal, exit_code};
+use crate::top::{refuse, superpin};
+use sp_host::{Host, ListPacer, Pacer, StdHost};
+use std::alloc::Global;
+use std::env;
+use std::io::ErrorKind;
+use std::process::ExitCode;
+
+/// Answers the command words, or says why they could not be read, and gives the exit status: that of
+/// the answer.
+pub fn answer_words<H: Host + Send, P: Pacer + Send>(
+    alloc: Global,
+    words: Result<Vec<String>, Refusal>,
+    host: &mut H,
+    pacer: &mut P,
+) -> u8
+    ensures read { IfOk words (λ words. WhereAllTold (H.told host.old) (λ files w.
+        (answer : Answer) × (result ≡ exit_code_of answer) ×
+        Outcome (H.told host.old) (program_of (texts words.items) files) w
+        (H.faults host.old) answer (H.told host.new) (H.faults host.new))) }
+    ensures unread { IfErr words (λ refusal. (result ≡ 125) ×
+        WritesLine refusal (H.told host.old) (H.told host.new) (H.faults host.old) (H.faults host.new)) }
+{
+    match words {
+        Ok(words) => {
+            let answer = superpin(alloc, &words, host, pacer);
+            exit_code(&answer)
+        }
+        Err(refusal) => {
+            refuse(host, &refusal);
+            exit_code(&Answer::Refused(refusal))
+        }
+    }
+}
+
+// The command words without the program's own name. Words that are no UTF-8 text are in no form that
+// is built.
+fn command_words(rt: &HostRuntime) -> Result<Vec<String>, Refusal> {
+    let args = match env::args(rt) {
+        Ok(args) => args,
+        Err(e) if e.kind() == ErrorKind::OutOfMemory => return Err(Refusal::NoMemory),
+        Err(_) => return Err(Refusal::NotBuilt),
+    };
+    let mut words = Vec::new(rt.alloc());
+    for word in args.skip(1) {
+        if words.push(word).is_err() {
+            return Err(Refusal::NoMemory);
+        }
+    }
+    Ok(words)
+}
+
+/// The whole program over the system.
+pub fn run_program(rt: HostRuntime) -> ExitCode {
+    let alloc = rt.alloc();
+    let words = command_words(&rt);
+    let mut pacer = ListPacer::new(Vec::new(alloc));
+    let mut host = StdHost::new(rt);
+    ExitCode::from(answer_words(alloc, words, &mut host, &mut pacer))
+}
