@@ -1,0 +1,10 @@
+//! Files and guests that several test crates need.
+#![tactic(auto)]
+
+mod files;
+mod guests;
+
+pub use files::{
+    EDITS, EXIT_7, Edit, LOAD_PAST_DATA, edited, one_segment, symbol_file, two_segments,
+};
+pub use guests::guest_of;
