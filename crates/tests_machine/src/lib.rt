@@ -1,0 +1,9 @@
+//! Tests of a guest and of its calls over public calls: what no clause says, and each call once.
+#![tactic(auto)]
+
+#[cfg(test)]
+mod calls;
+#[cfg(test)]
+mod loading;
+#[cfg(test)]
+mod steps;
