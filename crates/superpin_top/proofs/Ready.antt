@@ -11,6 +11,7 @@ use Rattle.elf_load.specs.Image.{ImageFields}
 use Rattle.elf_load.specs.declared.fault.ElfFault.{ElfFault}
 use Rattle.guest_model.specs.Call.{World}
 use Rattle.guest_model.specs.declared.platform.TheConstants.{MOST_STRINGS}
+use Rattle.guest_mem.specs.Memory.{free_frames}
 use Rattle.rv_machine.specs.Load.{strings_size}
 use Rattle.superpin_top.specs.Causes.{refusal_of_read}
 use Rattle.superpin_top.specs.Words.{Request, asked}
@@ -140,3 +141,8 @@ ran_decides program (Err (refusals.BudgetSpent n)) accepted late = accepted
 ran_decides program (Err refusals.InputFault) accepted late = accepted
 ran_decides program (Err (refusals.OutputFault port)) accepted late = accepted
 ran_decides program (Err refusals.ReportFault) accepted late = accepted
+
+-- a new guest's frames
+pub count_of_free : (n : ℕ) → (free_frames n).count ≡ n
+unfolding free_frames
+count_of_free n = refl

@@ -1,10 +1,10 @@
 -- The run, step by step.
-use Rattle.std.proofs.Common.{◌≡◌, ◌<◌, ◌+◌, ℕ, List, [], ◌++◌, refl, sym, ap, ◌∙◌, inl, inr, add-zero}
+use Rattle.std.proofs.Common.{◌≡◌, ◌<◌, ◌+◌, ℕ, List, [], ◌++◌, refl, sym, ap, ◌∙◌, ◌≤◌, inl, inr, zero-add, arith}
 use Rattle.std.specs.Prelude.{true, false, Bool, Option, None, Some, cond, count_by, is_some, Ok, Err, option_and_then, if◌then◌else◌}
 use Rattle.std.proofs.lemmas.Bool.{cases_Bool, true≢false}
 use Rattle.std.proofs.lemmas.List.Sums.{sum_by-append}
 use Rattle.sp_host.specs.Told.{Told}
-use Rattle.elf_load.specs.Image.{ImageFields}
+use Rattle.elf_load.specs.Image.{ImageFields, SegmentFields}
 use Rattle.rv_isa.specs.Table.{Fields}
 use Rattle.rv_isa.specs.Decoded.{decoded}
 use Rattle.guest_model.specs.Machine.{Machine, instruction_at}
@@ -35,9 +35,13 @@ count-append image xs ys = sum_by-append (λ item. cond (is_counted image item) 
 abbrev pub one_if : Bool → ℕ
 one_if b = if b then 1 else 0
 
+pub one_if_small : (b : Bool) → one_if b ≤ 1
+one_if_small true = omega arith
+one_if_small false = omega arith
+
 count_with : (image : ImageFields) (m : Machine) (c : Option Machine) (i : Option Fields) → count_of image (item_with m c i) ≡ cond (is_some i) (one_if (is_in_code image.segments m.pc)) 0
 count_with image m c None = refl
-count_with image m c (Some i) = add-zero _
+count_with image m c (Some i) = zero-add _
 
 count_item : (image : ImageFields) (p : Position) → count_of image (item_at p) ≡ cond (is_some (instruction_at p.machine)) (one_if (is_in_code image.segments p.machine.pc)) 0
 unfolding item_of
@@ -82,6 +86,11 @@ pub record SoFar (t now : Told) (m : Machine) (r : Run) (count steps : ℕ) : Ty
   pub machine_is : position.machine ≡ m
   pub counted : count ≡ count_of r.image (trace_of steps r.start)
   pub told_is : now ≡ told_after t position.world (sent_of steps r.start)
+
+-- what one step counts, as the code finds it
+pub counted_here : (image : ImageFields) (segments : List SegmentFields) (pc n : ℕ) (m : Machine) → n ≡ (if is_in_code segments pc then 1 else 0) → segments ≡ image.segments → pc ≡ m.pc → n ≡ one_if (is_in_code image.segments m.pc)
+counted_here image segments pc n m is same at =
+    is ∙ (ap (λ (ss : List SegmentFields). one_if (is_in_code ss pc)) same ∙ ap (λ (a : ℕ). one_if (is_in_code image.segments a)) at)
 
 pub begins : (t now : Told) (image : ImageFields) (m : Machine) (w : World) (budget : ℕ) → now ≡ told_after t w [] → SoFar t now m (record { image = image; start = start_of m w; budget = budget }) 0 0
 begins t now image m w budget is = record {

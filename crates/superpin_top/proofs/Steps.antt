@@ -1,25 +1,29 @@
 -- One step of the run, by what the instruction at pc does.
-use Rattle.std.proofs.Common.{◌≡◌, ℕ, ◌+◌, List, [], ◌∷◌, ◌++◌, refl, sym, ap, subst, ◌∙◌}
-use Rattle.std.specs.Prelude.{Option, None, Some, Ok, Err}
+use Rattle.std.proofs.Common.{◌≡◌, ◌≢◌, ℕ, ◌+◌, List, [], ◌∷◌, ◌++◌, refl, sym, ap, subst, ◌∙◌}
+use Rattle.std.specs.Prelude.{Option, None, Some, Result, Ok, Err}
 use Rattle.std.proofs.lemmas.List.{append-nil}
 use Rattle.sp_host.specs.Told.{Told}
 use Rattle.sp_host.specs.declared.host.Port.{Port}
+use Rattle.sp_host.specs.declared.host.Port.TheVariants.{Report}
 use Rattle.guest_model.specs.Machine.{Machine}
 use Rattle.guest_model.specs.Effect.{Effect, effect_of}
 use Rattle.guest_model.specs.Call.{World, Sent, Called, Went, Exits, call_of, call_with}
 use Rattle.guest_model.specs.Call as model
-use Rattle.guest_model.specs.Calls.{Deed, deed_of}
+use Rattle.guest_model.specs.Calls.{Deed, Answers, Takes, Sends, Tells, Maps, Ends, deed_of}
 use Rattle.guest_model.specs.Range.{Range}
 use Rattle.guest_model.specs.Runs.{RunState, Running, Ended}
 use Rattle.guest_model.specs.Serial.{Position, End, Exit, Signal, Unsupported, step_of, sent_at, step_by, step_by_call, sent_by, sent_by_call}
-use Rattle.call_record.specs.Record.{CallRecord}
+use Rattle.call_record.specs.Record.{CallRecord, Stored}
+use Rattle.guest_mem.specs.Frames.{Frames}
 use Rattle.rv_machine.specs.Guest.{GuestState}
 use Rattle.rv_machine.specs.Step.{kind_number}
 use Rattle.rv_machine.specs.declared.step.FaultKind.{FaultKind}
 use Rattle.rv_machine.specs.declared.step.End.TheVariants as ends
-use Rattle.syscall_layer.specs.Serve.{InputPart, PartWritten, TellsCall, told_after}
+use Rattle.syscall_layer.specs.Serve.{AnswersCall, FramesAfter, InputPart, PartWritten, SendsTo, TellsCall, told_after}
+use Rattle.syscall_layer.specs.declared.fault.CallFault.{CallFault}
 use Rattle.syscall_layer.specs.declared.fault.CallFault.TheVariants as calls
 use Rattle.syscall_layer.specs.declared.fault.RunFault.TheVariants as faults
+use Rattle.syscall_layer.specs.declared.server.Served.{Served}
 use Rattle.syscall_layer.specs.declared.server.Served.TheVariants as served
 use Rattle.superpin_top.specs.Run.{IsAt, world_of, MayLackMemory, StepGives}
 use Rattle.superpin_top.specs.declared.run.Turn.TheVariants as turns
@@ -132,3 +136,51 @@ no_memory_gives t p before m now after new called at takes tells = record {
     told_is (Went next later given sent) h = h
     told_is (Exits status) h = h
     told_is (model.Unsupported number) h = h
+
+-- the guest stays where a call ends the run or fails
+pub exit_stays : (deed : Option Deed) (status : ℕ) (old new : GuestState) → AnswersCall deed (Ok (served.Exit status)) old new → new ≡ old
+exit_stays None status old new answer = answer.1
+exit_stays (Some deed) status old new answer = answer.1
+
+pub unsupported_stays : (deed : Option Deed) (number : ℕ) (old new : GuestState) → AnswersCall deed (Err (calls.Unsupported number)) old new → new ≡ old
+unsupported_stays None number old new answer = answer.1
+unsupported_stays (Some deed) number old new answer = absurd answer
+
+-- what memory may be lacking for
+pub may_lack : (deed : Option Deed) (old new : GuestState) → AnswersCall deed (Err calls.NoMemory) old new → MayLackMemory deed
+may_lack None old new answer = let no = answer.0 in cc
+may_lack (Some deed) old new answer = answer.0
+
+-- the port of a fault is one of the guest's
+guests_port : (port : Port) (deed : Deed) → SendsTo port deed → port ≢ Report
+guests_port port (Sends number bytes answer) sends = sends.1
+guests_port port (Answers answer) sends = absurd sends
+guests_port port (Takes into) sends = absurd sends
+guests_port port (Tells at) sends = absurd sends
+guests_port port (Maps changed) sends = absurd sends
+guests_port port (Ends status) sends = absurd sends
+
+pub output_port : (port : Port) (deed : Option Deed) (old new : GuestState) → AnswersCall deed (Err (calls.OutputFault port)) old new → port ≢ Report
+output_port port None old new answer = let no = answer.0 in cc
+output_port port (Some deed) old new answer = guests_port port deed answer.0
+
+-- there are as many frames as before
+count_after : (deed : Deed) (stored : List Stored) (old new : Frames) → FramesAfter deed stored old new → new.count ≡ old.count
+count_after (Maps changed) stored old new after = after.1
+count_after (Answers answer) stored old new after = after.count
+count_after (Takes into) stored old new after = after.count
+count_after (Sends port bytes answer) stored old new after = after.count
+count_after (Tells at) stored old new after = after.count
+count_after (Ends status) stored old new after = after.count
+
+same_count : (old new : GuestState) → new ≡ old → new.frames.count ≡ old.frames.count
+same_count old new same = ap (λ (g : GuestState). g.frames.count) same
+
+pub count_kept : (deed : Option Deed) (r : Result Served CallFault) (old new : GuestState) → AnswersCall deed r old new → new.frames.count ≡ old.frames.count
+count_kept None r old new answer = same_count old new answer.1
+count_kept (Some deed) (Ok (served.Went entry)) old new answer = count_after deed entry.stored old.frames new.frames answer.frames
+count_kept (Some deed) (Ok (served.Exit status)) old new answer = same_count old new answer.1
+count_kept (Some deed) (Err (calls.Unsupported number)) old new answer = absurd answer
+count_kept (Some deed) (Err calls.InputFault) old new answer = same_count old new answer.1
+count_kept (Some deed) (Err (calls.OutputFault port)) old new answer = same_count old new answer.1
+count_kept (Some deed) (Err calls.NoMemory) old new answer = same_count old new answer.1

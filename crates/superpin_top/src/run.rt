@@ -82,15 +82,18 @@ fn has_word(segment: &Segment, pc: u32) -> bool
         && pc as u64 + 4 <= segment.start as u64 + segment.size as u64
 }
 
+// Whether an address is one of an instruction of the program.
+fn is_in_code(segments: &[Segment], pc: u32) -> bool
+    ensures { result ≡ is_in_code segments.now pc }
+{
+    segments.iter().any(|segment| has_word(segment, pc))
+}
+
 // 1 for an address of an instruction of the program, 0 for another.
 fn counted(segments: &[Segment], pc: u32) -> u64
     ensures { result ≡ if is_in_code segments.now pc then 1 else 0 }
 {
-    if segments.iter().any(|segment| has_word(segment, pc)) {
-        1
-    } else {
-        0
-    }
+    if is_in_code(segments, pc) { 1 } else { 0 }
 }
 
 /// Runs the guest of an image, which has a frame for each page that can be mapped, for at most

@@ -1,9 +1,10 @@
 use Rattle.std.proofs.Common.{◌≡◌, ◌≤◌, []}
 use Rattle.sp_host.specs.Told.{Told}
 use Rattle.guest_model.specs.Call.{World}
-use Rattle.rv_machine.specs.Guest.{machine}
-use Rattle.syscall_layer.specs.Serve.{at}
-use Rattle.superpin_top.specs.Due.{at_start}
+use Rattle.guest_model.specs.declared.platform.TheConstants.{MOST_PAGES}
+use Rattle.rv_machine.specs.Guest.{GuestState}
+use Rattle.syscall_layer.specs.Serve.{told_after}
+use Rattle.superpin_top.specs.Run.{Run, start_of}
 use Rattle.superpin_top.proofs.Runs.{SoFar}
 use Rattle.superpin_top.proofs.run.execute.Given as goal
 
@@ -12,7 +13,9 @@ invariant-loop-steps g l =
     let told = g.H.Host.told in
     let faults = g.H.Host.faults in
     record {
-      frames : 16384 ≤ l.guest.memory.frames;
+      frames : MOST_PAGES ≤ l.guest.frames.count;
+      few : l.count ≤ l.steps;
       same_faults : faults l.host ≡ faults l.fn.host;
-      so_far : (t : Told) (w : World) → told l.fn.host ≡ at t w [] → SoFar t (told l.host) (machine l.guest) (at_start (machine l.fn.guest) w) l.steps;
+      so_far : (t : Told) (w : World) → told l.fn.host ≡ told_after t w [] →
+          SoFar t (told l.host) l.guest.machine (record { image = l.image; start = start_of l.fn.guest.machine w; budget = l.budget }) l.count l.steps;
     }

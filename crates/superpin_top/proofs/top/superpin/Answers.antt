@@ -1,25 +1,42 @@
+use Rattle.std.proofs.Common.{◌<◌, sym, ap, ◌∙◌, arith}
 use Rattle.sp_host.specs.Faults.{File, Input}
 use Rattle.superpin_top.specs.Words.{texts}
-use Rattle.superpin_top.specs.Due.{start_of}
+use Rattle.superpin_top.specs.Due.{program_of}
+use Rattle.superpin_top.specs.declared.answer.Answer.TheVariants.{Refused}
+use Rattle.superpin_top.specs.declared.answer.Refusal.{Refusal}
+use Rattle.superpin_top.specs.declared.answer.Refusal.TheVariants as refusals
 use Rattle.superpin_top.proofs.Causes.{refused_where, port_where, report_rose, guests_port}
-use Rattle.superpin_top.proofs.Headline.{refused_follows}
+use Rattle.superpin_top.proofs.Headline.{early_ended, early_of, refused_follows}
 use Rattle.superpin_top.proofs.top.superpin.Goals as goal
 
 pub returns-in-Err-clause-headline : goal.returns-in-Err-clause-headline
 returns-in-Err-clause-headline g c files w files_are input moments =
-    (refused_follows _ (start_of (texts c.args.words.now) files w) w c.in-Err.refusal _ _ _ _ _ (c.in-Err.ensures.told files w files_are input moments) c.in-Err.ensures.faults c.refuse.ensures).headline
+    (refused_follows _ (program_of (texts c.args.words.now) files) w c.in-Err.refusal _ _ _ _ _ (c.in-Err.ensures.told files w files_are input moments) c.in-Err.ensures.faults c.refuse.ensures).headline
 
 pub returns-in-Err-clause-causes : goal.returns-in-Err-clause-causes
 returns-in-Err-clause-causes g c files w files_are input moments =
-    (refused_follows _ (start_of (texts c.args.words.now) files w) w c.in-Err.refusal _ _ _ _ _ (c.in-Err.ensures.told files w files_are input moments) c.in-Err.ensures.faults c.refuse.ensures).causes
+    (refused_follows _ (program_of (texts c.args.words.now) files) w c.in-Err.refusal _ _ _ _ _ (c.in-Err.ensures.told files w files_are input moments) c.in-Err.ensures.faults c.refuse.ensures).causes
 
 pub returns-in-Err-clause-front : goal.returns-in-Err-clause-front
 returns-in-Err-clause-front g c files w files_are input moments =
-    (refused_follows _ (start_of (texts c.args.words.now) files w) w c.in-Err.refusal _ _ _ _ _ (c.in-Err.ensures.told files w files_are input moments) c.in-Err.ensures.faults c.refuse.ensures).fronts.out
+    (refused_follows _ (program_of (texts c.args.words.now) files) w c.in-Err.refusal _ _ _ _ _ (c.in-Err.ensures.told files w files_are input moments) c.in-Err.ensures.faults c.refuse.ensures).fronts.out
 
 pub returns-in-Err-clause-error_front : goal.returns-in-Err-clause-error_front
 returns-in-Err-clause-error_front g c files w files_are input moments =
-    (refused_follows _ (start_of (texts c.args.words.now) files w) w c.in-Err.refusal _ _ _ _ _ (c.in-Err.ensures.told files w files_are input moments) c.in-Err.ensures.faults c.refuse.ensures).fronts.err
+    (refused_follows _ (program_of (texts c.args.words.now) files) w c.in-Err.refusal _ _ _ _ _ (c.in-Err.ensures.told files w files_are input moments) c.in-Err.ensures.faults c.refuse.ensures).fronts.err
+
+pub returns-in-Err-clause-early : goal.returns-in-Err-clause-early
+returns-in-Err-clause-early g c files files_are below same found =
+    let where_file = refused_where File c.in-Err.refusal _ _ _ _ _ c.in-Err.ensures.faults c.refuse.ensures (λ e. cc) below in
+    early_of (program_of (texts c.args.words.now) files) c.in-Err.refusal (c.in-Err.ensures.early files files_are)
+    (λ e. let rose = where_file.0 (ap (λ (r : Refusal). Refused r) e) in omega (arith, rose, same))
+    (λ e. found (ap (λ (r : Refusal). Refused r) e))
+
+pub returns-in-Err-clause-words : goal.returns-in-Err-clause-words
+returns-in-Err-clause-words g c = (
+  (λ none. let e = c.in-Err.ensures.words.0 none in cc),
+  λ e. c.in-Err.ensures.words.1 (cc),
+)
 
 pub returns-in-Err-clause-file_fault : goal.returns-in-Err-clause-file_fault
 returns-in-Err-clause-file_fault g c below = refused_where File c.in-Err.refusal _ _ _ _ _ c.in-Err.ensures.faults c.refuse.ensures (λ e. cc) below
