@@ -13,6 +13,7 @@
 #include <sys/times.h>
 #include <time.h>
 #include <unistd.h>
+#include <utime.h>
 
 #define WEAK __attribute__((weak))
 
@@ -68,10 +69,19 @@ WEAK ssize_t read(int file, void *bytes, size_t size) { return read_some(file, b
 WEAK ssize_t write(int file, const void *bytes, size_t size) { return write_some(file, bytes, size); }
 WEAK off_t lseek(int file, off_t to, int from) { return stay(file, to, from); }
 WEAK int close(int file) { return leave(file); }
-WEAK int open(const char *name, int flags, ...) { (void)name, (void)flags; return refuse(ENOENT); }
-WEAK int stat(const char *name, struct stat *about) { (void)name, (void)about; return refuse(ENOENT); }
+WEAK int isatty(int file) { (void)file; return refuse(ENOTTY), 0; }
 WEAK int fstat(int file, struct stat *about) { (void)file, (void)about; return refuse(EBADF); }
-WEAK int isatty(int file) { (void)file; errno = ENOTTY; return 0; }
+WEAK int fchmod(int file, mode_t mode) { (void)file, (void)mode; return refuse(EBADF); }
+WEAK int fchown(int file, uid_t owner, gid_t group) { (void)file, (void)owner, (void)group; return refuse(EBADF); }
+WEAK int ftruncate(int file, off_t size) { (void)file, (void)size; return refuse(EBADF); }
+
+WEAK int open(const char *name, int flags, ...) { (void)name, (void)flags; return refuse(ENOENT); }
+WEAK int access(const char *name, int wanted) { (void)name, (void)wanted; return refuse(ENOENT); }
+WEAK int stat(const char *restrict name, struct stat *restrict about) { (void)name, (void)about; return refuse(ENOENT); }
+WEAK int lstat(const char *restrict name, struct stat *restrict about) { (void)name, (void)about; return refuse(ENOENT); }
+WEAK int chmod(const char *name, mode_t mode) { (void)name, (void)mode; return refuse(ENOENT); }
+WEAK int chown(const char *name, uid_t owner, gid_t group) { (void)name, (void)owner, (void)group; return refuse(ENOENT); }
+WEAK int utime(const char *name, const struct utimbuf *times) { (void)name, (void)times; return refuse(ENOENT); }
 WEAK int unlink(const char *name) { (void)name; return refuse(ENOENT); }
 int rename(const char *old, const char *new) { (void)old, (void)new; return refuse(ENOENT); }
 
@@ -135,11 +145,20 @@ clock_t times(struct tms *times) {
 
 // The streams. The output is written where its buffer is full, at fflush and at exit, the error stream also at a line end.
 
+// Writes what is in the buffer. picolibc's own way of closing also frees the stream, but these were never allocated.
+static int close_stream(FILE *stream) {
+    return stream->flags & __SWR ? __bufio_flush(stream) : 0;
+}
+
+#define STREAM(file, buffer, way, kind)                                                                           \
+    {                                                                                                             \
+        .xfile = FDEV_SETUP_EXT(__bufio_put, __bufio_get, __bufio_flush, close_stream, __bufio_seek, __bufio_setvbuf, \
+                                (way) | __SBUF),                                                                  \
+        .fd = file, .buf = buffer, .size = sizeof buffer, .bflags = kind,                                         \
+        .read = read_some, .write = write_some, .lseek = stay, .close = leave,                                    \
+    }
+
 static char input_buffer[4096], output_buffer[4096], error_buffer[256];
-
-#define STREAM(file, buffer, way, kind) \
-    FDEV_SETUP_BUFIO(file, buffer, sizeof buffer, read_some, write_some, stay, leave, way, kind)
-
 static struct __file_bufio input = STREAM(STDIN_FILENO, input_buffer, __SRD, 0);
 static struct __file_bufio output = STREAM(STDOUT_FILENO, output_buffer, __SWR, 0);
 static struct __file_bufio error = STREAM(STDERR_FILENO, error_buffer, __SWR, __BLBF);
