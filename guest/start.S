@@ -1,6 +1,7 @@
 # The entry of a guest: sets the registers that compiled code rests on, and hands the first stack to start_c of glue.c.
     .section .text.start, "ax"
     .globl _start
+    .type _start, @function
 _start:
     .option push
     .option norelax
@@ -10,3 +11,4 @@ _start:
     mv a0, sp                   # argc, argv and the environment
     andi sp, sp, -16
     call start_c
+    .size _start, . - _start
