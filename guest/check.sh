@@ -120,6 +120,7 @@ check() {
 }
 
 find_superpin
+"$guest/superpin-cc" --version >/dev/null || skip 'the compiler is not complete'
 mkdir -p "$guest/out"
 build
 find_qemu
