@@ -12,16 +12,16 @@ set -eu
 export LC_ALL=C
 
 top=$(cd "$(dirname "$0")/.." && pwd)
-command -v rt >/dev/null || { echo "try.sh: there is no rt: put the Rattle kit on the path" >&2; exit 1; }
-copy=$(mktemp -d "${TMPDIR:-/tmp}/plants-XXXXXX")
-trap 'rm -rf "$copy"' EXIT
-trap 'exit 1' HUP INT TERM
-
 # Ends, since the words or the repository are not in order.
 fail() {
     echo "try.sh: $1" >&2
     exit 1
 }
+
+command -v rt >/dev/null || fail "there is no rt: put the Rattle kit on the path"
+copy=$(mktemp -d "${TMPDIR:-/tmp}/plants-XXXXXX")
+trap 'rm -rf "$copy"' EXIT
+trap 'exit 1' HUP INT TERM
 
 # The crates' own must-fail edits are left out: the gate tries them.
 tar -C "$top" --exclude='crates/*/out' --exclude='crates/*/must-fail' -cf - crates crates.txt HANDLES | tar -C "$copy" -xf -
@@ -29,6 +29,7 @@ tar -C "$top" --exclude='crates/*/out' --exclude='crates/*/must-fail' -cf - crat
 if [ $# -eq 0 ]; then
     cd "$top/plants"
     set -- */
+    [ -d "$1" ] || fail "there are no edits in plants/"
 fi
 : >"$copy/names"
 for word in "$@"; do
