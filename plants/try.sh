@@ -12,6 +12,7 @@ set -eu
 export LC_ALL=C
 
 top=$(cd "$(dirname "$0")/.." && pwd)
+
 # Ends, since the words or the repository are not in order.
 fail() {
     echo "try.sh: $1" >&2
