@@ -1,58 +1,60 @@
-// Shows the three ways to memory: malloc and free, the break, and a map of one's own.
-#include "calls.h"
-#include "mini.h"
+// Shows the heap: a tree of numbers that grows and shrinks, and blocks that are made greater.
+#include <stdio.h>
+#include <stdlib.h>
 
-// a list of numbers
-struct node {
-    int number;
-    struct node *next;
+enum { COUNT = 20000 };
+
+// a tree that has the smaller numbers on the left
+struct tree {
+    unsigned number;
+    struct tree *left, *right;
 };
 
-// Makes a list of the numbers from count down to 1, or gives a null pointer where there is no room.
-static struct node *make_list(int count) {
-    struct node *list = 0;
-    for (int number = 1; number <= count; number++) {
-        struct node *node = malloc(sizeof *node);
-        if (node == 0) return 0;
-        *node = (struct node){number, list};
-        list = node;
+// Puts a number into the tree, unless it is there; tells whether there was memory.
+static int put(struct tree **tree, unsigned number) {
+    while (*tree != NULL) {
+        if ((*tree)->number == number) return 1;
+        tree = number < (*tree)->number ? &(*tree)->left : &(*tree)->right;
     }
-    return list;
+    *tree = calloc(1, sizeof **tree);
+    if (*tree == NULL) return 0;
+    (*tree)->number = number;
+    return 1;
 }
 
-// Gives a list back; gives the sum of its numbers.
-static int free_list(struct node *list) {
-    int sum = 0;
-    while (list != 0) {
-        struct node *next = list->next;
-        sum += list->number;
-        free(list);
-        list = next;
+// Gives the memory of a tree back; gives how many numbers it had.
+static unsigned drop(struct tree *tree) {
+    if (tree == NULL) return 0;
+    unsigned count = drop(tree->left) + 1 + drop(tree->right);
+    free(tree);
+    return count;
+}
+
+// Collects squares in one block that is made greater by and by; gives the sum of the last hundred.
+static unsigned collect(unsigned count) {
+    unsigned *squares = NULL, room = 0, sum = 0;
+    for (unsigned i = 0; i < count; i++) {
+        if (i == room) {
+            room = 2 * room + 16;
+            squares = realloc(squares, room * sizeof *squares);
+            if (squares == NULL) return 0;
+        }
+        squares[i] = i * i;
     }
+    for (unsigned i = count - 100; i < count; i++) sum += squares[i];
+    free(squares);
     return sum;
 }
 
-// Moves the break up by some bytes and writes to the last; tells whether it could.
-static int grow_heap(size_t size) {
-    char *end = brk(0);
-    if (brk(end + size) != end + size) return 0;
-    end[size - 1] = 1;
-    return end[0] == 0;
-}
-
-// Maps pages, writes to the last byte, and gives them up; tells whether it could.
-static int use_map(size_t size) {
-    char *map = mmap2(0, size, MAY_READ | MAY_WRITE, IS_PRIVATE | IS_ANONYMOUS, -1, 0);
-    if (is_error((long)map)) return 0;
-    map[size - 1] = 1;
-    return map[0] == 0 && munmap(map, size) == 0;
-}
-
 int main(void) {
-    int first = free_list(make_list(10000));
-    int second = free_list(make_list(10000));
-    char *great = malloc(3000000);
-    printf("lists %d %d, great block %s\n", first, second, great == 0 ? "no" : "yes");
-    printf("break %s, map %s\n", grow_heap(100000) ? "yes" : "no", use_map(100000) ? "yes" : "no");
+    struct tree *tree = NULL;
+    unsigned number = 1;
+    for (int i = 0; i < COUNT; i++) {
+        number = number * 1103515245 + 12345;
+        if (!put(&tree, number >> 16 & 0x7fff)) return 1;
+    }
+    printf("%u different numbers\n", drop(tree));
+    printf("squares %u\n", collect(10000));
+    printf("a block of 3,000,000 bytes: %s\n", malloc(3000000) == NULL ? "no" : "yes");
     return 0;
 }

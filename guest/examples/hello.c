@@ -1,5 +1,5 @@
-// Shows the least program: one line of text, which is one call of write, and the end with status 0.
-#include "mini.h"
+// Shows the least program: one line of text, and the end with status 0.
+#include <stdio.h>
 
 int main(void) {
     printf("hello\n");

@@ -1,5 +1,5 @@
 // Shows multiplication in nested loops: the product of two matrices, and the sum of its diagonal.
-#include "mini.h"
+#include <stdio.h>
 
 enum { SIZE = 64 };
 

@@ -1,5 +1,5 @@
 // Shows calls by a function pointer: sorts the same numbers twice, in two orders.
-#include "mini.h"
+#include <stdio.h>
 
 enum { COUNT = 2000 };
 

@@ -1,5 +1,5 @@
 // Shows a long loop over memory: counts the prime numbers below a million by the sieve of Eratosthenes.
-#include "mini.h"
+#include <stdio.h>
 
 enum { LIMIT = 1000000 };
 
