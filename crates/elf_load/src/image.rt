@@ -2,6 +2,7 @@
 ghost use Rattle.std.specs.Prelude.{◌≡◌, ◌==◌, not, drop, take_while};
 ghost use Rattle.std.specs.List.{prefix_len};
 
+use std::alloc::AllocError;
 use std::marker::Model;
 use std::sync::Arc;
 
@@ -46,7 +47,7 @@ impl Model for Name {
 }
 
 impl Name {
-    ghost use Rattle.std.specs.Prelude.{◌≡◌};
+    ghost use Rattle.std.specs.Prelude.{◌≡◌, IfOk};
     ghost use Rattle.std.specs.Arc.{arc_value};
     ghost use Rattle.elf_load.specs.Image.{name_at};
 
@@ -55,6 +56,16 @@ impl Name {
         ensures { result ≡ name_at (arc_value table).items at }
     {
         Name { table, at }
+    }
+
+    /// The same name again, which shares its table. It copies no byte.
+    pub fn share(&self) -> Result<Name, AllocError>
+        ensures { IfOk result (λ name. name ≡ self.now) }
+    {
+        Ok(Name {
+            table: Arc::try_clone(&self.table)?,
+            at: self.at,
+        })
     }
 
     /// The bytes of the name, without its final zero byte. It looks for that, so it takes the time
@@ -80,6 +91,20 @@ impl Model for Function {
     ghost Value = { FunctionFields };
 
     ghost view = { λ f. record { start = f.start; name = f.name } };
+}
+
+impl Function {
+    ghost use Rattle.std.specs.Prelude.{◌≡◌, IfOk};
+
+    /// The same function again, whose name shares its table. It copies no byte.
+    pub fn share(&self) -> Result<Function, AllocError>
+        ensures { IfOk result (λ function. function ≡ self.now) }
+    {
+        Ok(Function {
+            start: self.start,
+            name: self.name.share()?,
+        })
+    }
 }
 
 /// What an executable asks to be loaded.

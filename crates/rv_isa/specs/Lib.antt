@@ -5,3 +5,4 @@ pub mod Arithmetic
 pub mod Kinds
 pub mod Text
 pub mod Forms
+pub mod Kept

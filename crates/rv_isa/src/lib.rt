@@ -2,6 +2,7 @@
 #![tactic(auto)]
 
 pub mod arithmetic;
+pub mod decoded_word;
 pub mod decoder;
 pub mod encoder;
 pub mod instr;
@@ -13,6 +14,7 @@ pub mod view;
 mod word;
 
 pub use arithmetic::alu;
+pub use decoded_word::DecodedWord;
 pub use decoder::decode;
 pub use encoder::encode;
 pub use instr::Instr;

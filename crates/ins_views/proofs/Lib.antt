@@ -1,0 +1,4 @@
+pub mod Shapes
+pub mod Blocks
+pub mod Routines
+pub mod Instructions
