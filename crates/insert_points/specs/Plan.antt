@@ -1,5 +1,5 @@
 -- What a plan calls at each address, and where it keeps that.
-use Rattle.std.specs.Prelude.{◌≡◌, ℕ, zero, suc, ◌+◌, ◌*◌, ◌/◌, ◌%◌, ◌^◌, ◌<◌, ◌≤◌, ◌==◌, List, [], length, slice_index, slice_index_or, slice_range, None, Some, All, if◌then◌else◌}
+use Rattle.std.specs.Prelude.{◌≡◌, ℕ, zero, suc, ◌+◌, ◌*◌, ◌/◌, ◌%◌, ◌^◌, ◌<◌, ◌≤◌, ◌==◌, Bool, not, List, [], length, slice_index, slice_index_or, slice_range, None, Some, All, if◌then◌else◌}
 use Rattle.insert_points.specs.Events.{Called}
 use Rattle.insert_points.specs.Planned.{plan_calls}
 use Rattle.insert_points.specs.declared.call.Call.{Call}
@@ -62,6 +62,11 @@ called_at plan a = calls_of plan.calls (site_at plan.table plan.sites a)
 
 abbrev pub nothing_called : Called
 nothing_called = record { routine = []; block = []; before = []; after = []; taken = [] }
+
+-- something is called
+abbrev pub is_called : Called → Bool
+is_called called =
+    not (length called.routine + length called.block + (length called.before + length called.after + length called.taken) == 0)
 
 abbrev pub address_of : Thing → ℕ
 address_of (things.Ins pc instr) = pc

@@ -128,7 +128,7 @@ fn site_with(placing: Placing, start: u32, count: u8, site: Site) -> Site
 
 impl Plan {
     ghost use Rattle.std.specs.Prelude.{◌≡◌, ◌≤◌, ◌<◌, ◌+◌, ◌^◌, ℕ, OnErr, OnOk, length};
-    ghost use Rattle.insert_points.specs.Plan.{FewCalls, Fits, called_after, called_at, called_put, nothing_called};
+    ghost use Rattle.insert_points.specs.Plan.{FewCalls, Fits, called_after, called_at, called_put, is_called, nothing_called};
 
     /// A plan that calls nothing. It takes no memory.
     #[tactic(auto, unfolding(crate::specs::Plan::called_at))]
@@ -153,6 +153,17 @@ impl Plan {
         ensures few { FewCalls (called_at self.now pc) }
     {
         calls_of(self.pool.calls.as_slice(), self.index.get(pc))
+    }
+
+    /// Whether anything is called at an address.
+    #[inline(always)]
+    pub fn is_called(&self, pc: u32) -> bool
+        ensures { result ≡ is_called (called_at self.now pc) }
+    {
+        let called = self.at(pc);
+        let heads = called.routine.len() + called.block.len();
+        let instruction = called.before.len() + called.after.len() + called.taken.len();
+        heads + instruction != 0
     }
 
     // Puts calls at an address.

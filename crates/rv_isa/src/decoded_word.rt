@@ -6,6 +6,7 @@ use crate::decoder::decode;
 use crate::instr::Instr;
 use crate::op::Op;
 use std::marker::Model;
+use std::mem::size_of;
 
 // Where the register `rd` of an instruction stands, the mark of a word that has none: no register has this number.
 const NO_INSTRUCTION: u8 = 32;
@@ -20,6 +21,8 @@ pub struct DecodedWord {
     rs2: u8,
     imm: i32,
 }
+
+const _: () = prove!(size_of::<DecodedWord>() == 8);
 
 impl Model for DecodedWord {
     ghost use Rattle.std.specs.Prelude.{Option, IfSome};

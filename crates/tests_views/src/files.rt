@@ -1,0 +1,48 @@
+// Files as words, made by an assembler of another program.
+ghost use Rattle.std.specs.Prelude.{◌≡◌};
+
+use std::alloc::{AllocError, Global};
+
+// A program that counts in memory to 6 and exits with 7. Its code begins at 0x10074.
+pub const COUNTER: [u32; 41] = [
+    0x464c457f, 0x00010101, 0x00000000, 0x00000000, 0x00f30002, 0x00000001, 0x00010074, 0x00000034,
+    0x00000000, 0x00000000, 0x00200034, 0x00280002, 0x00000000, 0x00000001, 0x00000000, 0x00010000,
+    0x00010000, 0x000000a4, 0x000000a4, 0x00000005, 0x00001000, 0x00000001, 0x00000000, 0x00020000,
+    0x00020000, 0x00000000, 0x00002000, 0x00000006, 0x00001000, 0x00020337, 0x00600393, 0x00032283,
+    0x00128293, 0x00532023, 0x407282b3, 0x00028663, 0x00000293, 0xfe9ff06f, 0x05d00893, 0x00700513,
+    0x00000073,
+];
+
+// Two executable segments, the second of which begins where the first ends: four words of `addi` from 0x10ff0 on; from
+// 0x11000 on an `addi`, a `jal`, and two bytes of a word whose others are zeros, of 14 bytes in all. Functions `first` at
+// 0x10ff0 and `second` at 0x11004, a symbol of data, and an undefined function.
+pub const ADJACENT: [u32; 91] = [
+    0x464c457f, 0x00010101, 0x00000000, 0x00000000, 0x00f30002, 0x00000001, 0x00010ff0, 0x00000034,
+    0x000000f4, 0x00000000, 0x00200034, 0x00280002, 0x00000003, 0x00000001, 0x00000074, 0x00010ff0,
+    0x00010ff0, 0x00000010, 0x00000010, 0x00000005, 0x00000001, 0x00000001, 0x00000084, 0x00011000,
+    0x00011000, 0x0000000a, 0x0000000e, 0x00000005, 0x00000001, 0x00100293, 0x00128293, 0x00228313,
+    0x00330393, 0x00438413, 0x0000006f, 0x00000013, 0x00000000, 0x00000000, 0x00000000, 0x00000000,
+    0x00000007, 0x00011004, 0x00000000, 0x00010012, 0x00000001, 0x00010ff0, 0x00000000, 0x00010012,
+    0x0000000e, 0x00010ff8, 0x00000000, 0x00010011, 0x00000001, 0x00010ff4, 0x00000000, 0x00000012,
+    0x72696600, 0x73007473, 0x6e6f6365, 0x61640064, 0x00006174, 0x00000000, 0x00000000, 0x00000000,
+    0x00000000, 0x00000000, 0x00000000, 0x00000000, 0x00000000, 0x00000000, 0x00000000, 0x00000000,
+    0x00000002, 0x00000000, 0x00000000, 0x00000090, 0x00000050, 0x00000002, 0x00000000, 0x00000000,
+    0x00000010, 0x00000000, 0x00000003, 0x00000000, 0x00000000, 0x000000e0, 0x00000013, 0x00000000,
+    0x00000000, 0x00000000, 0x00000000,
+];
+
+// The bytes of these words.
+pub fn bytes_of(alloc: Global, words: &[u32]) -> Result<Vec<u8>, AllocError> {
+    let mut bytes = Vec::new(alloc);
+    for word in words {
+        bytes.extend_from_slice(&word.to_le_bytes())?;
+    }
+    Ok(bytes)
+}
+
+// What only a value that threads may share passes.
+pub fn is_shared<T: Sync + Send>(value: T) -> T
+    ensures { result ≡ value }
+{
+    value
+}
