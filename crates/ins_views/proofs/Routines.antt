@@ -1,6 +1,6 @@
 -- The last routine that starts at or before an address.
-use Rattle.std.proofs.Common.{◌≡◌, ◌+◌, ◌-◌, ◌≤◌, ◌<◌, ◌∙◌, ◌&&◌, ℕ, zero, suc, Bool, true, false, List, [], ◌∷◌, length, map, get_or, arith, refl, sym, add-one, inl, inr}
-use Rattle.std.specs.Prelude.{◌⊎◌, All, count_by, filter, nat_le}
+use Rattle.std.proofs.Common.{◌≡◌, ◌+◌, ◌-◌, ◌≤◌, ◌<◌, ◌∙◌, ◌&&◌, ℕ, zero, suc, Bool, true, false, List, [], ◌∷◌, length, map, get_or, arith, refl, sym, add-one, inl, inr, ap}
+use Rattle.std.specs.Prelude.{◌≢◌, ◌⊎◌, ◌==◌, All, None, Some, find, count_by, filter, nat_le}
 use Rattle.std.specs.List.{AllWithin}
 use Rattle.std.specs.List.Sorted.{IsNonDecreasingBy, IsPartitionPoint, IsStrictlyIncreasing}
 use Rattle.std.proofs.lemmas.Bool.{cases_lt}
@@ -87,3 +87,69 @@ has_none routines c a count rising within parts below =
     go k d h (inr more) =
         let after : nat_le (get_or routines k d).start a ≡ false = parts.1 k d more h in
         grind (arith, nat_tests)
+
+-- the routine at an index is the one that starts there
+far : (xs : List ℕ) (i n : ℕ) → IsStrictlyIncreasing xs → i + n + 1 < length xs → get_or xs i 0 < get_or xs (i + n + 1) 0
+far xs i zero rising h =
+    let next : get_or xs i 0 < get_or xs (i + 1) 0 = rising i (omega arith) in
+    let same : get_or xs (i + 1) 0 ≡ get_or xs (i + 0 + 1) 0 = ap (λ k. get_or xs k 0) (omega arith) in
+    omega (arith, next, same)
+far xs i (suc n) rising h =
+    let before = far xs i n rising (omega arith) in
+    let next : get_or xs (i + n + 1) 0 < get_or xs (i + n + 1 + 1) 0 = rising (i + n + 1) (omega arith) in
+    let same : get_or xs (i + n + 1 + 1) 0 ≡ get_or xs (i + suc n + 1) 0 = ap (λ k. get_or xs k 0) (omega arith) in
+    omega (arith, before, next, same)
+
+rest_rises : (x : ℕ) (xs : List ℕ) → IsStrictlyIncreasing (x ∷ xs) → IsStrictlyIncreasing xs
+rest_rises x xs rising k h =
+    let less : get_or (x ∷ xs) (suc k) 0 < get_or (x ∷ xs) (suc k + 1) 0 = rising (suc k) (omega arith) in
+    let place : suc k + 1 ≡ suc (k + 1) = omega arith in
+    let same : get_or (x ∷ xs) (suc k + 1) 0 ≡ get_or xs (k + 1) 0 = ap (λ n. get_or (x ∷ xs) n 0) place in
+    omega (arith, less, same)
+
+starts_after : (f : FunctionFields) (routines : List FunctionFields) (k : ℕ) (d : FunctionFields) → Rising (f ∷ routines) → k < length routines → f.start < (get_or routines k d).start
+starts_after f routines k d rising h =
+    let all = map (λ (g : FunctionFields). g.start) (f ∷ routines) in
+    let len = length-map (f ∷ routines) (λ (g : FunctionFields). g.start) in
+    let less : get_or all 0 0 < get_or all (0 + k + 1) 0 = far all 0 k rising (omega (arith, len)) in
+    let next : 0 + k + 1 ≡ suc k = omega arith in
+    let place : get_or all (0 + k + 1) 0 ≡ get_or (map (λ (g : FunctionFields). g.start) routines) k 0 = ap (λ n. get_or all n 0) next in
+    let read = get_or-map (λ (g : FunctionFields). g.start) routines k d 0 h in
+    omega (arith, less, place, read)
+
+pub find_at : (routines : List FunctionFields) (a k : ℕ) (d : FunctionFields) → Rising routines → k < length routines → (get_or routines k d).start ≡ a
+    → find (λ f. f.start == a) routines ≡ Some (get_or routines k d)
+find_at [] a k d rising h e = absurd (omega arith)
+find_at (f ∷ routines) a zero d rising h e = let test : (f.start == a) ≡ true = grind (arith, nat_tests) in rw test refl
+find_at (f ∷ routines) a (suc k) d rising h e =
+    let after = starts_after f routines k d rising (omega arith) in
+    let test : (f.start == a) ≡ false = grind (arith, nat_tests) in
+    rw test (find_at routines a k d (rest_rises f.start (map (λ (g : FunctionFields). g.start) routines) rising) (omega arith) e)
+
+pub find_none : (routines : List FunctionFields) (a : ℕ) → ((k : ℕ) (d : FunctionFields) → k < length routines → (get_or routines k d).start ≢ a) → find (λ f. f.start == a) routines ≡ None
+find_none [] a h = refl
+find_none (f ∷ routines) a h =
+    let here : f.start ≢ a = h 0 f (omega arith) in
+    let test : (f.start == a) ≡ false = grind (arith, nat_tests) in
+    rw test (find_none routines a (λ k d within. h (suc k) d (omega arith)))
+
+-- the last routine that starts at or before an address tells which starts there
+pub find_last : (routines : List FunctionFields) (a count : ℕ) (d : FunctionFields) → Rising routines → count ≤ length routines → 0 < count → (get_or routines (count - 1) d).start ≡ a
+    → find (λ f. f.start == a) routines ≡ Some (get_or routines (count - 1) d)
+find_last routines a count d rising within some e = find_at routines a (count - 1) d rising (omega arith) e
+
+pub find_no_last : (routines : List FunctionFields) (a count : ℕ) → Rising routines → count ≤ length routines
+    → IsPartitionPoint (λ f. nat_le f.start a ≡ true) (λ f. nat_le f.start a ≡ false) routines count
+    → (0 < count → (d : FunctionFields) → (get_or routines (count - 1) d).start ≢ a) → find (λ f. f.start == a) routines ≡ None
+find_no_last routines a count rising within parts other = find_none routines a (λ k d h e. go k d h e (cases_lt k count))
+  where
+    go : (k : ℕ) (d : FunctionFields) → k < length routines → (get_or routines k d).start ≡ a → (k < count) ⊎ (count ≤ k) → ⊥
+    go k d h e (inl less) =
+        let order = starts_rise routines rising k (count - 1) d (omega arith) (omega arith) in
+        let test : nat_le (get_or routines (count - 1) d).start a ≡ true = parts.0 (count - 1) d (omega arith) (omega arith) in
+        let below : (get_or routines (count - 1) d).start ≤ a = grind (arith, nat_tests) in
+        other (omega arith) d (omega (arith, order, below, e))
+    go k d h e (inr more) =
+        let test : nat_le (get_or routines k d).start a ≡ false = parts.1 k d more h in
+        let above : a < (get_or routines k d).start = grind (arith, nat_tests) in
+        absurd (omega (arith, above, e))

@@ -132,9 +132,9 @@ fn byte_of(segment: &Segment, at: u32) -> u32
     }
 }
 
-// The word at an address of a segment.
+/// The word at an address of a segment's memory, in which zeros stand behind the bytes of the file.
 #[tactic(auto, unfolding(crate::specs::Memory::memory_word))]
-fn word_of(segment: &Segment, at: u32) -> u32
+pub fn memory_word(segment: &Segment, at: u32) -> u32
     requires start { segment.now.start ≤ at }
     requires end { at + 3 < 2 ^ 32 }
     ensures { result ≡ memory_word segment.now at }
@@ -153,7 +153,7 @@ fn words_of(alloc: Global, segment: &Segment) -> Result<Vec<DecodedWord>, AllocE
     let count = count_words(segment);
     let mut words = Vec::with_capacity(alloc, count as usize)?;
     for k in 0..count {
-        words.push(DecodedWord::of(word_of(segment, first + 4 * k)))?;
+        words.push(DecodedWord::of(memory_word(segment, first + 4 * k)))?;
     }
     Ok(words)
 }

@@ -5,5 +5,5 @@ mod code;
 pub mod laws;
 mod views;
 
-pub use code::Code;
+pub use code::{Code, memory_word};
 pub use views::{Block, Views};

@@ -1,5 +1,5 @@
 // The views of a program.
-ghost use Rattle.std.specs.Prelude.{◌≡◌, ◌≤◌, All, IfOk, count_by, filter, length, map, nat_le, true, false};
+ghost use Rattle.std.specs.Prelude.{◌≡◌, ◌≤◌, ◌==◌, All, IfOk, count_by, filter, find, option_copied, length, map, nat_le, true, false};
 ghost use Rattle.std.specs.List.Sorted.{IsPartitionPoint};
 ghost use Rattle.elf_load.specs.Image.{IsSegment, is_executable};
 ghost use Rattle.ins_views.specs.Views.{AreRoutines, code_view, routine_in};
@@ -62,7 +62,7 @@ fn shared_functions(alloc: Global, functions: &[Function]) -> Result<Vec<Functio
 }
 
 impl Views {
-    ghost use Rattle.std.specs.Prelude.{◌≡◌, ◌<◌, length, slice_get, Some, IfOk, IfSome, option_copied};
+    ghost use Rattle.std.specs.Prelude.{◌≡◌, ◌<◌, ◌==◌, find, length, slice_get, Some, IfOk, IfSome, option_copied};
     ghost use Rattle.ins_views.specs.Views.{IsPlaced, views_of, code_at, ins_at, routine_of};
     ghost use Rattle.ins_views.specs.Blocks.{block_at, block_length};
 
@@ -154,6 +154,13 @@ impl Views {
         &self.routines[k as usize]
     }
 
+    /// The routine that starts at an address.
+    pub fn routine_at(&self, pc: u32) -> Option<&Function>
+        ensures { option_copied result ≡ find (λ f. f.start == pc) self.now.routines }
+    {
+        routine_at(&self.routines, pc)
+    }
+
     /// The routine in which an address lies, by its number: the last that starts at or before the address. None exactly
     /// where none starts so in the executable segment of the address, or the address lies in none.
     #[tactic(auto, unfolding(crate::specs::Views::routine_of))]
@@ -163,6 +170,22 @@ impl Views {
         let code = self.code_at(pc)?;
         routine_in(&self.routines, pc, code)
     }
+}
+
+// The routine that starts at an address.
+fn routine_at(routines: &[Function], at: u32) -> Option<&Function>
+    requires { AreRoutines routines.now }
+    ensures { option_copied result ≡ find (λ f. f.start == at) routines.now }
+{
+    let count = count_started(routines, at);
+    if count == 0 {
+        return None;
+    }
+    let last = &routines[count - 1];
+    if last.start != at {
+        return None;
+    }
+    Some(last)
 }
 
 // The last routine that starts at or before an address, where one starts so in this segment.
