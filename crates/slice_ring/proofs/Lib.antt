@@ -1,0 +1,6 @@
+mod Leads
+mod Looks
+mod Starts
+mod Stays
+mod Turns
+mod Workers
