@@ -18,7 +18,7 @@ use Rattle.slice_ring.specs.declared.views.Lead.{Lead}
 use Rattle.slice_ring.specs.declared.views.View.{View}
 use Rattle.slice_ring.specs.Rule.{SlotPhase, free, ready, taken, done, Cell, word_of, tag_of, Holds, IsUnused, InPhase, SlotHolds, SeatHolds, LeadHolds, RingHolds}
 use Rattle.slice_ring.specs.Ticket.{Tag, Ticket}
-use Rattle.slice_ring.specs.Steps.{stores_first, stores_second, publishes, stored_first, stored_second, published, merges, glances, collected, opens, opened, closes, closed, works_for, spent}
+use Rattle.slice_ring.specs.Steps.{stores_first, stores_second, publishes, stored_first, stored_second, published, merges, glances, collected, opens, opened, closes, closed, works_for, takes_back, spent}
 use Rattle.slice_ring.proofs.Stays.{put, holder, set_at, Onward, Apart, held_stays, looks_stay, words_same, own_word, tag_same, moved, unmoved}
 use Rattle.slice_ring.proofs.Workers.{Goes, rank, no_less, none_some, some_same, there, leader_stays}
 
@@ -226,11 +226,17 @@ module _ {J R T : Type 0} (job : J → Ticket T) (piece : R → Ticket T) (slots
   told_topic : (s : St) (r : Rule s) (id : ℕ) (v : V) (top : T) → get_elem? s.views id ≡ some v → v.role ≡ Leads → v.topic ≡ Some top → topic ≡ top
   told_topic s r id v top at leads told = ⊎_elim (λ e. some_same topic top (sym e ∙ told)) (λ e. absurd (no_less 0 2 (ap rank (sym leads ∙ e)) (omega arith))) (r.each_seat id v at).told
 
-  -- the lead found another word
-  lead_glances : (s : St) (r : Rule s) (k id x : ℕ) (cs : List (ℕ × S)) (v : V) → get_elem? s.views id ≡ some v → v.role ≡ Leads → Rule (stepped s k (get_or s.words k 0) id cs (glances x v) keeps)
-  lead_glances s r k id x cs v at leads = let one = is_leader s r id v at leads in let w : V = glances x v in let old = r.each_seat id v at in
-      unmoved job piece slots topic s r k id cs v w w at (subst (λ (z : ℕ). get_elem? (set s.views id w) z ≡ some w) one.0 (set_at s.views id v w at)) leads (ap (λ (u : V). u.lead) (sym one.1)) (λ n tag h. h)
-      record { told = old.told; leads = old.leads; holds = old.holds; each_look = old.each_look }
+  -- the lead learns something that the rule does not read
+  lead_learns : (s : St) (r : Rule s) (k id : ℕ) (cs : List (ℕ × S)) (v w : V) → get_elem? s.views id ≡ some v → v.role ≡ Leads → w.role ≡ Leads → w.topic ≡ v.topic → w.lead ≡ v.lead → w.work ≡ v.work
+      → Rule (stepped s k (get_or s.words k 0) id cs w keeps)
+  lead_learns s r k id cs v w at leads leads' told lead work = let one = is_leader s r id v at leads in let old = r.each_seat id v at in
+      unmoved job piece slots topic s r k id cs v w w at (subst (λ (z : ℕ). get_elem? (set s.views id w) z ≡ some w) one.0 (set_at s.views id v w at)) leads' (lead ∙ ap (λ (u : V). u.lead) (sym one.1)) (λ n tag h. ap (λ o. o.held) work ∙ h)
+      record {
+        told = ⊎_elim (λ e. inl (told ∙ e)) (λ e. absurd (no_less 0 2 (ap rank (sym leads ∙ e)) (omega arith))) old.told;
+        leads = λ _. one.0;
+        holds = λ n tag h. absurd (no_less 0 1 (ap rank (sym leads ∙ (old.holds n tag (sym (ap (λ o. o.held) work) ∙ h)).0)) (omega arith));
+        each_look = λ o look e. old.each_look o look (sym (ap (λ u. get_elem? u.kept o) work) ∙ e);
+      }
 
   -- a load of the word of the next slot to merge: where the slot is done, the lead gets its turn
   pub collect_allowed : (n id : ℕ) (me : M) (k : ℕ) → k ≡ 3 * (me.0.lead.merged % slots) + 1 → me.0.role ≡ Leads → me.0.lead.merged < length me.0.lead.tags → me.0.lead.opened ≡ slots
@@ -285,7 +291,7 @@ module _ {J R T : Type 0} (job : J → Ticket T) (piece : R → Ticket T) (slots
         w,
         keeps,
         tt,
-        lead_glances s r (3 * i + 1) id x me.1 v at leads,
+        lead_learns s r (3 * i + 1) id me.1 v w at leads leads refl refl refl,
         λ j top e told. ((λ hit. absurd (miss hit)), λ _. refl),
       )))
     where
@@ -391,11 +397,14 @@ module _ {J R T : Type 0} (job : J → Ticket T) (piece : R → Ticket T) (slots
       holders done j n k = k
 
   -- a worker that holds nothing is retired
-  pub join_allowed : (id other : ℕ) (v w : V) → w.role ≡ Works → w.work.held ≡ None → Joins Rule id v other w v spent
-  join_allowed id other v w works nothing s r at apart there' =
-      let same = set_again s.views id v at in let at' : get_elem? s.views other ≡ some w = subst (λ (vs : List V). get_elem? vs other ≡ some w) same there' in
-      subst (λ (y : List ℕ × List V). Rule record { words = y.0; homes = s.homes; views = set y.1 other spent }) (λ z. (set-get_or s.words 0 0 z, sym same z))
-      (unmoved job piece slots topic s r 0 other [] w spent r.leader at' (leader_stays job piece slots topic s r other w spent at' works) r.leads refl (λ n tag h. absurd (none_some (n, tag) (sym nothing ∙ h))) record {
+  pub join_allowed : (id other : ℕ) (v w : V) → v.role ≡ Leads → w.role ≡ Works → w.work.held ≡ None → Joins Rule id v other w (takes_back v) spent
+  join_allowed id other v w leads works nothing s r at apart there' =
+      let back : V = takes_back v in let views' : List V = set s.views id back in
+      let same : Path (List ℕ) (set s.words 0 (get_or s.words 0 0)) s.words = set-get_or s.words 0 0 in
+      let s' : St = record { words = s.words; homes = s.homes; views = views' } in
+      let r' : Rule s' = subst (λ (ws : List ℕ). Rule record { words = ws; homes = s.homes; views = views' }) same (lead_learns s r 0 id [] v back at leads leads refl refl refl) in
+      subst (λ (ws : List ℕ). Rule record { words = ws; homes = s.homes; views = set views' other spent }) same
+      (unmoved job piece slots topic s' r' 0 other [] w spent r'.leader there' (leader_stays job piece slots topic s' r' other w spent there' works) r'.leads refl (λ n tag h. absurd (none_some (n, tag) (sym nothing ∙ h))) record {
         told = inr refl;
         leads = λ t. absurd (no_less 0 2 (ap rank (sym t)) (omega arith));
         holds = λ n tag h. absurd (none_some (n, tag) h);

@@ -28,15 +28,16 @@ module _ {T : Type 0} where
     lead = no_lead;
     work = record { held = None; kept = replicate slots no_look };
     glance = None;
+    retired = 0;
   }
 
   -- a worker's view, made of the lead's
   abbrev pub works_for : View T → View T
-  works_for v = record v { role = Works; looks = 0; lead = no_lead; glance = None }
+  works_for v = record v { role = Works; looks = 0; lead = no_lead; glance = None; retired = 0 }
 
   -- the view of a retired worker
   abbrev pub spent : View T
-  spent = record { role = Spent; topic = None; looks = 0; lead = no_lead; work = record { held = None; kept = [] }; glance = None }
+  spent = record { role = Spent; topic = None; looks = 0; lead = no_lead; work = record { held = None; kept = [] }; glance = None; retired = 0 }
 
   -- what a worker's view keeps of the slot i
   abbrev pub look_at : ℕ → View T → Look
@@ -93,6 +94,10 @@ module _ {T : Type 0} where
   -- the store to the closing word
   abbrev pub closes : View T → View T
   closes v = record v { lead = record v.lead { closed = true } }
+
+  -- the lead takes back the seat of a worker
+  abbrev pub takes_back : View T → View T
+  takes_back v = record v { retired = v.retired + 1 }
 
 -- of a step, the seat before, the number found or stored, and the seat after
 abbrev pub Then : Type 0 → Type 0 → Type 0 → Type 1

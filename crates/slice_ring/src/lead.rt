@@ -5,7 +5,7 @@ ghost use Rattle.slice_ring.specs.declared.views.Content.TheVariants.{Job, Piece
 ghost use Rattle.slice_ring.specs.declared.views.Role.TheVariants.{Leads};
 ghost use Rattle.slice_ring.specs.Ticket.{Tag};
 ghost use Rattle.slice_ring.specs.Seats.{IsSame, IsLeading, IsWorking, IsAnswer};
-ghost use Rattle.slice_ring.specs.Steps.{stores_first, stores_second, publishes, glances, merges, closes};
+ghost use Rattle.slice_ring.specs.Steps.{stores_first, stores_second, publishes, glances, merges, closes, takes_back};
 
 use crate::plays::{Close, Collect, Engage, Publish, Retire, StoreFirst, StoreSecond};
 use crate::table::{SlotTable, TableSeat};
@@ -122,7 +122,7 @@ impl<J: Numbered + Drop, R: Numbered<Topic = J::Topic> + Drop> SlotTable<J, R> {
     pub(crate) fn retire(&self, lead: &mut TableSeat<J, R>, seat: TableSeat<J, R>)
         requires lead { (lead.old.table_id ≡ self.now.table.shared.table_id) × IsLeading self.now.slots lead.old.me }
         requires seat { (seat.table_id ≡ self.now.table.shared.table_id) × IsWorking self.now.slots seat.me × (seat.me.0.work.held ≡ None) }
-        ensures { IsSame lead.old lead.new × (lead.new.me ≡ lead.old.me) }
+        ensures { IsSame lead.old lead.new × (lead.new.me ≡ (takes_back lead.old.me.0, lead.old.me.1)) }
     {
         self.table.shared.join_seat::<Retire>(lead, seat)
     }

@@ -1,5 +1,5 @@
 // What each atomic step tells its seat. These types are for proofs alone.
-ghost use Rattle.slice_ring.specs.Steps.{saw_word, saw_first, saw_second, claimed, stored_first, stored_second, published, finished, glanced, opened, collected, closed, works_for, spent};
+ghost use Rattle.slice_ring.specs.Steps.{saw_word, saw_first, saw_second, claimed, stored_first, stored_second, published, finished, glanced, opened, collected, closed, works_for, takes_back, spent};
 
 use crate::views::{Content, Numbered, View};
 use atomic_table::{Join, Play, Split};
@@ -90,7 +90,7 @@ impl<T> Split<View<T>> for Engage {
 pub(crate) struct Retire;
 
 impl<T> Join<View<T>> for Retire {
-    ghost both = { λ v w. v };
+    ghost both = { λ v w. takes_back v };
 
     ghost spent = { spent };
 }

@@ -1,7 +1,7 @@
 // The ring.
 ghost use Rattle.std.specs.Prelude.{◌≡◌, ◌≢◌, ℕ, ◌+◌, ◌*◌, ◌^◌, ◌<◌, ◌≤◌, ◌==◌, length, All, IfOk, IfSome, IfNone};
 ghost use Rattle.slice_ring.specs.Seats.{slots_of, with_view, IsOf, IsIdle, IsFresh, IsOpen, HoldsNone, HoldsJob, published_by, merged_by, WasReady, WasMissed, IsAnswer};
-ghost use Rattle.slice_ring.specs.Steps.{look_at, publishes, finishes, merges, glances, closes};
+ghost use Rattle.slice_ring.specs.Steps.{look_at, publishes, finishes, merges, glances, closes, takes_back};
 
 use crate::seats::{LeadSeat, WorkSeat};
 use crate::table::SlotTable;
@@ -154,7 +154,7 @@ impl<J: Numbered + Send + Drop, R: Numbered<Topic = J::Topic> + Send + Drop> Rin
     pub fn retire(&self, lead: &mut LeadSeat<J, R>, seat: WorkSeat<J, R>)
         requires of_ring { IsOf self.now lead.old }
         requires seat { IsIdle self.now seat }
-        ensures { lead.new ≡ lead.old }
+        ensures { lead.new ≡ with_view lead.old (takes_back lead.old.view) }
     {
         self.slot_table.retire(&mut lead.seat, seat.seat)
     }

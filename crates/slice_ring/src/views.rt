@@ -70,8 +70,8 @@ pub struct Work {
     pub kept: LinkedList<Look>,
 }
 
-/// What a seat knows. `looks` counts its loads and exchanges. `glance` is the word of a lead's last `collect`, or of a
-/// worker's last `is_closed`.
+/// What a seat knows. `looks` counts its loads and exchanges, and `retired` the seats that it took back. `glance` is the word of
+/// a lead's last `collect`, or of a worker's last `is_closed`.
 pub struct View<T> {
     pub role: Role,
     pub topic: Option<T>,
@@ -79,4 +79,5 @@ pub struct View<T> {
     pub lead: Lead,
     pub work: Work,
     pub glance: Option<Glance>,
+    pub retired: u64,
 }
