@@ -1,5 +1,6 @@
 mod Leads
 mod Looks
+mod Readings
 mod Starts
 mod Stays
 mod Turns

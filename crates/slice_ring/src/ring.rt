@@ -85,6 +85,13 @@ impl<J: Numbered + Send + Drop, R: Numbered<Topic = J::Topic> + Send + Drop> Rin
         self.slot_table.slots as u32
     }
 
+    /// The word of a slot as a load finds it, which another step may change at once: so nothing is said of it. It is for tests.
+    pub fn word(&self, slot: u32) -> u64
+        requires { slot < slots_of self.now }
+    {
+        self.slot_table.table.shared.peek(3 * slot as usize + 1)
+    }
+
     /// Publishes a job, for a worker to claim. It has the next number, counted from 0, and fewer than all slots are outstanding.
     pub fn publish(&self, lead: &mut LeadSeat<J, R>, job: J)
         requires of_ring { IsOf self.now lead.old }
