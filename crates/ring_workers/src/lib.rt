@@ -95,10 +95,11 @@ pub fn run_beside<
 }
 
 /// Takes back the seats of the workers, which hold no job.
-pub fn retire_all<
-    J: Numbered + Send + Drop,
-    P: Numbered<Topic = J::Topic> + Send + Drop,
->(ring: &Ring<J, P>, lead: &mut LeadSeat<J, P>, seats: Vec<WorkSeat<J, P>>)
+pub fn retire_all<J: Numbered + Send + Drop, P: Numbered<Topic = J::Topic> + Send + Drop>(
+    ring: &Ring<J, P>,
+    lead: &mut LeadSeat<J, P>,
+    seats: Vec<WorkSeat<J, P>>,
+)
     requires lead { IsOf ring.now lead.old }
     requires seats { All (IsIdle ring.now) seats.items }
     ensures { IsSameBut (length seats.items) lead.old lead.new }

@@ -127,7 +127,7 @@ module _ {J R T : Type 0} (job : J → Ticket T) (piece : R → Ticket T) (slots
       let f : ℕ → Phase = λ k. phase_by s.views k (word_of s.words (k % slots)) in
       let got = stands s r n b (r.cells (n % slots)).1 refl (subst (λ (z : ℕ). InPhase job piece slots topic r.leader.lead s.homes s.views (n % slots) z (word_of s.words (n % slots)) (tag_of s.words (n % slots)) (r.cells (n % slots)).1) serve.0 ok.phase) in
       let phase : phase_of (core_of slots s) n ≡ f n = subst (λ (l : Lead). cond (ltb n l.merged) Absent (get_or (map f (range_with_len l.merged (length l.tags - l.merged))) (n - l.merged) Absent) ≡ f n) (sym lead)
-          (ap (λ (t : Bool). cond t Absent (get_or (map f (range_with_len m (p - m))) (n - m) Absent)) (le-ltb n m a) ∙ get_or-map-range_with_len f m (p - m) (n - m) n Absent (omega arith) (omega arith)) in (
+      (ap (λ (t : Bool). cond t Absent (get_or (map f (range_with_len m (p - m))) (n - m) Absent)) (le-ltb n m a) ∙ get_or-map-range_with_len f m (p - m) (n - m) n Absent (omega arith) (omega arith)) in (
         ap (λ (l : Lead). get_elem? l.tags n) lead ∙ got.0,
         subst (StandsIn job piece slots topic s n (tag_of s.words (n % slots))) (sym phase) got.1,
       )

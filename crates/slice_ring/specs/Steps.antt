@@ -118,7 +118,7 @@ module _ {J R T : Type 0} where
   claimed job st m found m' = (i n : ℕ) (tag : Tag) (topic : T) → st.word ≡ 3 * i + 1 → st.first ≡ 4 * n + 1
       → (look_at i m.0).first ≡ Some tag.0 → (look_at i m.0).second ≡ Some tag.1 → m.0.topic ≡ Some topic
       → (found ≡ st.first → (m'.0 ≡ takes_job n tag m.0) × (n % st.slots ≡ i)
-          × ((x : J) × (m'.1 ≡ (i, Some (Job x)) ∷ m.1) × (job x ≡ record { number = n; tag = tag; topic = topic })))
+      × ((x : J) × (m'.1 ≡ (i, Some (Job x)) ∷ m.1) × (job x ≡ record { number = n; tag = tag; topic = topic })))
       × (found ≢ st.first → m' ≡ (loses i found m.0, m.1))
 
   -- the piece's slot goes home
@@ -146,8 +146,8 @@ module _ {J R T : Type 0} where
   abbrev pub collected : (R → Ticket T) → Then J R T
   collected piece st m found m' = (i : ℕ) (topic : T) → st.word ≡ 3 * i + 1 → m.0.topic ≡ Some topic
       → (found ≡ 4 * m.0.lead.merged + 3 → (m'.0 ≡ merges m.0)
-          × ((y : R) × (tag : Tag) × (m'.1 ≡ (i, Some (Piece y)) ∷ m.1) × (get_elem? m.0.lead.tags m.0.lead.merged ≡ some tag)
-              × (piece y ≡ record { number = m.0.lead.merged; tag = tag; topic = topic })))
+      × ((y : R) × (tag : Tag) × (m'.1 ≡ (i, Some (Piece y)) ∷ m.1) × (get_elem? m.0.lead.tags m.0.lead.merged ≡ some tag)
+      × (piece y ≡ record { number = m.0.lead.merged; tag = tag; topic = topic })))
       × (found ≢ 4 * m.0.lead.merged + 3 → m' ≡ (glances found m.0, m.1))
 
   abbrev pub closed : Then J R T

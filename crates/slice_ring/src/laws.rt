@@ -30,10 +30,10 @@ fn is_moved<T: Send>(value: T) -> T
 }
 
 /// A ring can be shared between threads, and a worker's seat moved to one.
-pub fn crosses_threads<
-    J: Numbered + Send + Drop,
-    R: Numbered<Topic = J::Topic> + Send + Drop,
->(ring: &Ring<J, R>, seat: WorkSeat<J, R>) -> WorkSeat<J, R>
+pub fn crosses_threads<J: Numbered + Send + Drop, R: Numbered<Topic = J::Topic> + Send + Drop>(
+    ring: &Ring<J, R>,
+    seat: WorkSeat<J, R>,
+) -> WorkSeat<J, R>
     ensures { result ≡ seat }
 {
     is_shared(ring);

@@ -20,10 +20,11 @@ pub(crate) struct Rules<J, R> {
     marker: PhantomData<(J, R)>,
 }
 
-impl<
-    J: Numbered,
-    R: Numbered<Topic = J::Topic>,
-> TableRule<Option<Content<J, R>>, View<J::Topic>, Key<J::Topic>> for Rules<J, R> {
+impl<J: Numbered, R: Numbered<Topic = J::Topic>> TableRule<
+    Option<Content<J, R>>,
+    View<J::Topic>,
+    Key<J::Topic>,
+> for Rules<J, R> {
     ghost holds = { λ key. RingHolds J.ticket R.ticket key.slots key.topic.value };
 
     ghost first = { λ key. begins key.slots key.topic.value };
@@ -35,7 +36,13 @@ pub(crate) type TableSeat<J, R> = Seat<Option<Content<J, R>>, View<<J as Numbere
 // The table, with the number of its slots.
 #[derive(Drop)]
 pub(crate) struct SlotTable<J: Numbered + Drop, R: Numbered<Topic = J::Topic> + Drop> {
-    pub(crate) table: Table<Option<Content<J, R>>, View<J::Topic>, Key<J::Topic>, Rules<J, R>, Global>,
+    pub(crate) table: Table<
+        Option<Content<J, R>>,
+        View<J::Topic>,
+        Key<J::Topic>,
+        Rules<J, R>,
+        Global,
+    >,
     pub(crate) slots: usize,
     ghost sized: { (table.shared.table_id.words ≡ 3 * slots + 1) × (table.shared.table_id.slots ≡ slots) × (table.shared.key.slots ≡ slots) × (0 < slots) × (slots ≤ 32) },
 }

@@ -26,7 +26,10 @@ fn hold(weave: &mut Weave, rows: &[Row]) -> bool {
 #[test]
 fn one_slot(rt: HostRuntime) -> Result<(), Fail> {
     let mut weave = Weave::new(1);
-    let rows = [make_row(Move::Publish, true), make_row(Move::Publish, false)];
+    let rows = [
+        make_row(Move::Publish, true),
+        make_row(Move::Publish, false),
+    ];
     assert!(rt; hold(&mut weave, &rows));
     assert!(rt; weave.published() == 1 && weave.merged() == 0);
     Ok(())

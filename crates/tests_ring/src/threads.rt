@@ -71,7 +71,6 @@ fn run_all<R: Threads + Wait + Sync>(
     )
 }
 
-
 #[test]
 fn three_workers(rt: HostRuntime) -> Result<(), Fail> {
     let (ring, mut lead, mut seats) = Squares::create(rt.alloc(), 4, 3, &())?;

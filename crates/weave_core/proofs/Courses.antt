@@ -76,18 +76,18 @@ brings s k d old new n es le is there more l =
     let m : ℕ = s.merged in let above : m ≤ k = le in
     dite (ℕ_discrete k n)
     (λ same. subst (λ t. Stands s' n (es ++ t)) (sym (of_same n k d same)) (⊎_elim
-        (λ p. let a : n < m = p.0 in let c : k ≡ n = same in absurd (omega arith))
-        (λ p. inr (
-          p.0,
-          subst (λ q. HasCome q (es ++ d ∷ [])) (sym (ap (λ (i : ℕ). get_or s'.phases (i - m) Absent) (sym same) ∙ get_or-set_same s.phases (k - m) new Absent (within s.phases (k - m) old is there)))
-              (more es (subst (λ q. HasCome q es) (ap (entry s) (sym same) ∙ is) p.1)),
-        )) l))
+    (λ p. let a : n < m = p.0 in let c : k ≡ n = same in absurd (omega arith))
+    (λ p. inr (
+      p.0,
+      subst (λ q. HasCome q (es ++ d ∷ [])) (sym (ap (λ (i : ℕ). get_or s'.phases (i - m) Absent) (sym same) ∙ get_or-set_same s.phases (k - m) new Absent (within s.phases (k - m) old is there)))
+          (more es (subst (λ q. HasCome q es) (ap (entry s) (sym same) ∙ is) p.1)),
+    )) l))
     (λ apart. subst (λ t. Stands s' n (es ++ t)) (sym (of_other n k d apart)) (subst (Stands s' n) (sym (append-nil es)) (⊎_elim
-        (λ p. inl p)
-        (λ p. inr (
-          p.0,
-          subst (λ q. HasCome q es) (sym (get_or-set_other s.phases (k - m) (n - m) new Absent (λ e. let a : m ≤ n = p.0 in let c : n - m ≡ k - m = e in apart (omega arith)))) p.1,
-        )) l)))
+    (λ p. inl p)
+    (λ p. inr (
+      p.0,
+      subst (λ q. HasCome q es) (sym (get_or-set_other s.phases (k - m) (n - m) new Absent (λ e. let a : m ≤ n = p.0 in let c : n - m ≡ k - m = e in apart (omega arith)))) p.1,
+    )) l)))
 
 last_at : (ps : List Phase) (i : ℕ) → i ≡ length ps → get_or (ps ++ Ready ∷ []) i Absent ≡ Ready
 last_at [] zero e = refl
@@ -125,26 +125,26 @@ moves_on : (s : WeaveState) (m : Move) (n : ℕ) (es : List Event) → is_allowe
 unfolding rank
 moves_on s Publish n es ok l = let k : ℕ = published s in let m : ℕ = s.merged in let c : ℕ = length s.phases in dite (ℕ_discrete k n)
     (λ same. subst (λ t. Stands (after s Publish) n (es ++ t)) (sym (of_same n k is_published same)) (⊎_elim
-        (λ p. let a : n < m = p.0 in let e : m + c ≡ n = same in absurd (omega arith))
-        (λ p. let a : m ≤ n = p.0 in let e : m + c ≡ n = same in let i : n - m ≡ c = omega arith in
-            inr (p.0, subst (λ q. HasCome q (es ++ is_published ∷ [])) (sym (last_at s.phases (n - m) i)) (ap (λ (g : List Event). g ++ is_published ∷ []) (subst (λ q. HasCome q es) (beyond s.phases (n - m) i) p.1)))) l))
+    (λ p. let a : n < m = p.0 in let e : m + c ≡ n = same in absurd (omega arith))
+    (λ p. let a : m ≤ n = p.0 in let e : m + c ≡ n = same in let i : n - m ≡ c = omega arith in
+    inr (p.0, subst (λ q. HasCome q (es ++ is_published ∷ [])) (sym (last_at s.phases (n - m) i)) (ap (λ (g : List Event). g ++ is_published ∷ []) (subst (λ q. HasCome q es) (beyond s.phases (n - m) i) p.1)))) l))
     (λ apart. subst (λ t. Stands (after s Publish) n (es ++ t)) (sym (of_other n k is_published apart)) (subst (Stands (after s Publish) n) (sym (append-nil es)) (⊎_elim (λ p. inl p)
-        (λ p. let a : m ≤ n = p.0 in inr (p.0, subst (λ q. HasCome q es) (sym (not_last s.phases (n - m) (λ e. let f : n - m ≡ c = e in apart (let g : m + c ≡ n = omega arith in g)))) p.1)) l)))
+    (λ p. let a : m ≤ n = p.0 in inr (p.0, subst (λ q. HasCome q es) (sym (not_last s.phases (n - m) (λ e. let f : n - m ≡ c = e in apart (let g : m + c ≡ n = omega arith in g)))) p.1)) l)))
 moves_on s (Claim k w) n es ok l = let got = not_merged s k is_ready refl (second _ _ ok) in
     brings s k (is_claimed_by w) Ready (Taken w) n es got.0 (ready_is (entry s k) got.1) (not_absent Ready (omega arith)) (λ g e. ap (λ (t : List Event). t ++ is_claimed_by w ∷ []) e) l
 moves_on s (Finish k w) n es ok l = let got = not_merged s k (is_taken_by w) refl (second _ _ ok) in
     brings s k (is_finished_by w) (Taken w) Done n es got.0 (taken_is w (entry s k) got.1) (not_absent (Taken w) (omega arith)) (λ g e. (w, ap (λ (t : List Event). t ++ is_finished_by w ∷ []) e)) l
 moves_on s Merge n es ok l = let m : ℕ = s.merged in let got = not_merged s m is_done refl (second _ _ ok) in dite (ℕ_discrete m n)
     (λ same. subst (λ t. Stands (after s Merge) n (es ++ t)) (sym (of_same n m is_merged same)) (⊎_elim
-        (λ p. let a : n < m = p.0 in let e : m ≡ n = same in absurd (omega arith))
-        (λ p. let e : m ≡ n = same in let come = subst (λ q. HasCome q es) (ap (entry s) (sym same) ∙ done_is (entry s m) got.1) p.1 in
-            inl ((let g : n < m + 1 = omega arith in g), (come.0, ap (λ (t : List Event). t ++ is_merged ∷ []) come.1))) l))
+    (λ p. let a : n < m = p.0 in let e : m ≡ n = same in absurd (omega arith))
+    (λ p. let e : m ≡ n = same in let come = subst (λ q. HasCome q es) (ap (entry s) (sym same) ∙ done_is (entry s m) got.1) p.1 in
+    inl ((let g : n < m + 1 = omega arith in g), (come.0, ap (λ (t : List Event). t ++ is_merged ∷ []) come.1))) l))
     (λ apart. subst (λ t. Stands (after s Merge) n (es ++ t)) (sym (of_other n m is_merged apart)) (subst (Stands (after s Merge) n) (sym (append-nil es)) (⊎_elim
-        (λ p. let a : n < m = p.0 in inl ((let g : n < m + 1 = omega arith in g), p.1))
-        (λ p. let a : m ≤ n = p.0 in let f : m ≢ n = apart in inr (
-          (let g : m + 1 ≤ n = omega arith in g),
-          subst (λ q. HasCome q es) (sym (dropped s.phases (n - (m + 1)) ∙ ap (λ (i : ℕ). get_or s.phases i Absent) (let g : suc (n - (m + 1)) ≡ n - m = omega arith in g))) p.1,
-        )) l)))
+    (λ p. let a : n < m = p.0 in inl ((let g : n < m + 1 = omega arith in g), p.1))
+    (λ p. let a : m ≤ n = p.0 in let f : m ≢ n = apart in inr (
+      (let g : m + 1 ≤ n = omega arith in g),
+      subst (λ q. HasCome q es) (sym (dropped s.phases (n - (m + 1)) ∙ ap (λ (i : ℕ). get_or s.phases i Absent) (let g : suc (n - (m + 1)) ≡ n - m = omega arith in g))) p.1,
+    )) l)))
 moves_on s Close n es ok l = subst (Stands (after s Close) n) (sym (append-nil es)) l
 
 of_append : (n : ℕ) (ds es : List (ℕ × Event)) → of_slice n (ds ++ es) ≡ of_slice n ds ++ of_slice n es
