@@ -1,5 +1,6 @@
-//! `ring_bench JOBS WORKERS SLOTS` hands so many empty jobs to so many workers by a ring with so many slots, and says how many pieces
-//! came back. With 0 workers the lead claims the jobs itself. It is timed from outside, by bench/ring.sh.
+//! `ring_bench JOBS WORKERS SLOTS` hands so many empty jobs to so many workers by a ring with so many slots, and
+//! says how many pieces came back. With 0 workers the lead claims the jobs itself. It is timed from outside, by
+//! bench/ring.sh.
 #![tactic(auto)]
 
 ghost use Rattle.std.specs.Prelude.{◌≡◌, ◌+◌, ◌<◌, ◌≤◌, ◌^◌, All, length, IfSome};
@@ -7,16 +8,17 @@ ghost use Rattle.slice_ring.specs.Seats.{IsOf, IsIdle, IsFresh, slots_of};
 
 use ring_workers::{retire_all, run_beside};
 use slice_ring::{LeadSeat, Numbered, Ring, WorkSeat};
-use std::alloc::AllocError;
-use std::env;
+use std::alloc::{AllocError, Global};
 use std::process::ExitCode;
 use std::sync::Wait;
-use std::thread;
 use std::thread::Threads;
+use std::{env, thread};
 
 /// The most jobs, and the most workers beside the lead.
 const MOST_JOBS: u64 = 1_000_000_000;
+
 const MOST_WORKERS: u64 = 16;
+
 const MOST_SLOTS: u64 = 32;
 
 /// A job or a piece that says its number and nothing else.
@@ -63,8 +65,9 @@ fn number(word: Option<String>, least: u64, most: u64) -> Option<u64>
     Some(found)
 }
 
-fn asked(rt: &HostRuntime) -> Option<Asked>
-    ensures { IfSome result (λ a. (a.jobs ≤ MOST_JOBS) × (a.workers ≤ MOST_WORKERS) × (1 ≤ a.slots) × (a.slots ≤ MOST_SLOTS)) }
+fn read_words(rt: &HostRuntime) -> Option<Asked>
+    ensures { IfSome result (λ a. (a.jobs ≤ MOST_JOBS) × (a.workers ≤ MOST_WORKERS) × (1 ≤ a.slots)
+        × (a.slots ≤ MOST_SLOTS)) }
 {
     let mut words = env::args(rt).ok()?.skip(1);
     let jobs = number(words.next(), 0, MOST_JOBS)?;
@@ -83,8 +86,8 @@ fn answer(job: Empty) -> Empty
     job
 }
 
-// Publishes the jobs and collects their pieces. Where `helps`, it claims a job itself where no piece is done. It closes the ring
-// and gives how many pieces came.
+// Publishes the jobs and collects their pieces. Where `helps`, it claims a job itself where no piece is done. It
+// closes the ring and gives how many pieces came.
 fn lead_all<R: Wait>(
     rt: &R,
     ring: &EmptyRing,
@@ -107,8 +110,9 @@ fn lead_all<R: Wait>(
         if lead.published() < jobs && lead.outstanding() < slots {
             let number = lead.published();
             ring.publish(lead, Empty { number });
-        } else if ring.collect(lead).is_some() {
-        } else if helps && let Some(job) = ring.claim(mine) {
+        } else if ring.collect(lead).is_some() {} else if helps
+            && let Some(job) = ring.claim(mine)
+        {
             ring.deposit(mine, answer(job));
         } else {
             thread::yield_now();
@@ -139,7 +143,8 @@ fn lead_beside<R: Threads + Wait + Sync>(
         ring,
         &answer,
         &mut || -> u64
-            requires { (jobs ≤ MOST_JOBS) × IsOf ring.now lead.now × IsFresh lead.now × IsIdle ring.now mine.now }
+            requires { (jobs ≤ MOST_JOBS) × IsOf ring.now lead.now × IsFresh lead.now
+                × IsIdle ring.now mine.now }
             ensures { IsOf ring.entry.now lead.exit.now × IsIdle ring.entry.now mine.exit.now }
         { lead_all(rt, ring, lead, mine, jobs, false) },
         seats,
@@ -147,17 +152,30 @@ fn lead_beside<R: Threads + Wait + Sync>(
 }
 
 // How many pieces came back.
-fn run(rt: &HostRuntime, asked: &Asked) -> Result<u64, AllocError>
-    requires { (asked.now.jobs ≤ MOST_JOBS) × (asked.now.workers ≤ MOST_WORKERS) × (1 ≤ asked.now.slots) × (asked.now.slots ≤ MOST_SLOTS) }
+fn run<R: Threads + Wait + Sync>(rt: &R, alloc: Global, asked: &Asked) -> Result<u64, AllocError>
+    requires { (asked.now.jobs ≤ MOST_JOBS) × (asked.now.workers ≤ MOST_WORKERS)
+        × (1 ≤ asked.now.slots) × (asked.now.slots ≤ MOST_SLOTS) }
 {
-    let (ring, mut lead, mut seats) = EmptyRing::create(rt.alloc(), asked.slots, asked.workers + 1, &())?;
+    let (ring, mut lead, mut seats) = EmptyRing::create(
+        alloc,
+        asked.slots,
+        asked.workers + 1,
+        &(),
+    )?;
     let Some(mut mine) = seats.pop() else {
         unreachable!()
     };
     let merged = if seats.is_empty() {
         lead_all(rt, &ring, &mut lead, &mut mine, asked.jobs, true)
     } else {
-        lead_beside(rt, &ring, &mut lead, &mut mine, asked.jobs, seats.as_mut_slice())
+        lead_beside(
+            rt,
+            &ring,
+            &mut lead,
+            &mut mine,
+            asked.jobs,
+            seats.as_mut_slice(),
+        )
     };
     ring.retire(&mut lead, mine);
     retire_all(&ring, &mut lead, seats);
@@ -165,11 +183,11 @@ fn run(rt: &HostRuntime, asked: &Asked) -> Result<u64, AllocError>
 }
 
 fn main(rt: HostRuntime) -> ExitCode {
-    let Some(asked) = asked(&rt) else {
+    let Some(asked) = read_words(&rt) else {
         let _ = eprintln!(rt; "ring_bench: the words are JOBS WORKERS SLOTS");
         return ExitCode::from(2);
     };
-    let Ok(merged) = run(&rt, &asked) else {
+    let Ok(merged) = run(&rt, rt.alloc(), &asked) else {
         let _ = eprintln!(rt; "ring_bench: no memory");
         return ExitCode::from(2);
     };

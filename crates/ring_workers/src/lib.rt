@@ -52,14 +52,15 @@ pub fn work_all<
         seats,
         threads,
         &|_, seat: &mut WorkSeat<J, P>|
-            requires { IsIdle ring.now seat.now × Answers J.ticket P.ticket ring.now (W.pre answer.now) (W.post answer.now) }
+            requires { IsIdle ring.now seat.now
+                × Answers J.ticket P.ticket ring.now (W.pre answer.now) (W.post answer.now) }
             ensures { IsIdle ring.entry.now seat.exit.now }
         { work(rt, ring, seat, answer) },
     );
 }
 
-/// Calls the lead's part once, while each seat answers jobs in a thread of its own. The lead's part is to close the ring. A thread
-/// that cannot be started does its work after the lead's part, when the ring is closed.
+/// Calls the lead's part once, while each seat answers jobs in a thread of its own. The lead's part is to close the
+/// ring. A thread that cannot be started does its work after the lead's part, when the ring is closed.
 pub fn run_beside<
     'a,
     'b,
@@ -86,7 +87,8 @@ pub fn run_beside<
     join_mut(
         rt,
         &mut ||
-            requires { (0 < length seats.now) × All (IsIdle ring.now) seats.now × Answers J.ticket P.ticket ring.now (W.pre answer.now) (W.post answer.now) }
+            requires { (0 < length seats.now) × All (IsIdle ring.now) seats.now
+                × Answers J.ticket P.ticket ring.now (W.pre answer.now) (W.post answer.now) }
             ensures { All (IsIdle ring.entry.now) seats.exit.now }
         { work_all(rt, ring, answer, seats) },
         lead,

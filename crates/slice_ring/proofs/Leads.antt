@@ -1,5 +1,5 @@
 -- The lead's steps keep the ring's rule.
-use Rattle.std.proofs.Common.{◌≡◌, ℕ, zero, suc, ◌+◌, ◌*◌, ◌%◌, ◌^◌, ◌<◌, ◌≤◌, ◌≢◌, ◌⊎◌, inl, inr, Bool, true, false, cond, List, [], ◌∷◌, ◌++◌, length, get_or, set, sym, refl, ap, ◌∙◌, subst, ⊎_elim, le_refl, mod-lt, lt_of_not-le, arith, length-append, length-set, get_or-set_other, get_or-set_same}
+use Rattle.std.proofs.Common.{◌≡◌, ℕ, suc, ◌+◌, ◌*◌, ◌%◌, ◌^◌, ◌<◌, ◌≤◌, ◌≢◌, inl, inr, Bool, true, false, cond, List, [], ◌∷◌, ◌++◌, length, get_or, set, sym, refl, ap, ◌∙◌, subst, ⊎_elim, le_refl, mod-lt, lt_of_not-le, arith, length-append, length-set, get_or-set_other, get_or-set_same}
 use mathlib.Core.Path.{Path}
 use mathlib.Core.Option.{some, none, some-injective, some-ne-none}
 use mathlib.Core.Option as maybe
@@ -9,17 +9,17 @@ use native.Mathlib.Decide.{ℕ_discrete, dec_le}
 use lib.ListN.{get_elem?}
 use lib.Seq.{set-get_or}
 use Rattle.std.specs.Prelude.{Option, Some, None, IfSome}
-use Rattle.atomic_table.specs.Table.{State, Me, step, stepped, Act, keeps, takes, gives, Valid, Allows, carried_after, rest, Splits, Joins}
-use Rattle.atomic_table.proofs.Lists.{at_set, set_here, set_else, set_again, at_longer, at_last, at_snoc, one_turn}
+use Rattle.atomic_table.specs.Table.{State, Me, step, stepped, keeps, takes, gives, Allows, rest, Splits, Joins}
+use Rattle.atomic_table.proofs.Lists.{set_here, set_else, set_again, at_longer, at_last, at_snoc, one_turn}
 use Rattle.slice_ring.specs.declared.views.Content.{Content}
 use Rattle.slice_ring.specs.declared.views.Content.TheVariants.{Job, Piece}
-use Rattle.slice_ring.specs.declared.views.Role.TheVariants.{Leads, Works, Spent}
+use Rattle.slice_ring.specs.declared.views.Role.TheVariants.{Leads, Works}
 use Rattle.slice_ring.specs.declared.views.Lead.{Lead}
 use Rattle.slice_ring.specs.declared.views.View.{View}
-use Rattle.slice_ring.specs.Rule.{SlotPhase, free, ready, taken, done, Cell, word_of, tag_of, Holds, IsUnused, InPhase, SlotHolds, SeatHolds, LeadHolds, RingHolds}
+use Rattle.slice_ring.specs.Rule.{SlotPhase, free, ready, taken, done, Cell, word_of, tag_of, IsUnused, InPhase, SlotHolds, SeatHolds, LeadHolds, RingHolds}
 use Rattle.slice_ring.specs.Ticket.{Tag, Ticket}
 use Rattle.slice_ring.specs.Steps.{stores_first, stores_second, publishes, stored_first, stored_second, published, merges, glances, collected, opens, opened, closes, closed, works_for, takes_back, spent}
-use Rattle.slice_ring.proofs.Stays.{put, holder, set_at, Onward, Apart, held_stays, looks_stay, words_same, own_word, tag_same, moved, unmoved}
+use Rattle.slice_ring.proofs.Stays.{holder, set_at, Onward, Apart, looks_stay, words_same, own_word, tag_same, moved, unmoved}
 use Rattle.slice_ring.proofs.Workers.{Goes, rank, no_less, none_some, some_same, there, leader_stays}
 
 pub not_both : (b : Bool) → b ≡ false → b ≡ true → ⊥

@@ -1,3 +1,4 @@
+mod CoreMoves
 mod Leads
 mod Looks
 mod Readings

@@ -21,18 +21,25 @@ use Rattle.slice_ring.proofs.Stays.{holder}
 use Rattle.slice_ring.proofs.Workers.{no_less}
 use Rattle.slice_ring.proofs.Leads.{serves}
 
-not_true : false ≡ true → ⊥
+pub not_true : false ≡ true → ⊥
 not_true e = no_less 0 1 (ap (λ (b : Bool). cond b 1 0) e) (omega arith)
 
 -- a phase by three tests of a word
-abbrev by_tests : ℕ → Bool → Bool → Bool → Phase
+abbrev pub by_tests : ℕ → Bool → Bool → Bool → Phase
 by_tests who a b c = cond a Ready (cond b (Taken who) (cond c Done Absent))
 
 module _ {T : Type 0} where
-  holds_this : (n : ℕ) (tag : Tag) (v : View T) → Holds n tag v → holds_number n v.work.held ≡ true
+  pub holds_this : (n : ℕ) (tag : Tag) (v : View T) → Holds n tag v → holds_number n v.work.held ≡ true
   holds_this n tag v h = ap (holds_number n) h ∙ eq-eqb n n refl
 
-  lead_is : (views : List (View T)) (v : View T) → get_elem? views 0 ≡ some v → lead_of views ≡ v.lead
+  pub held_tag : (n : ℕ) (v : View T) → holds_number n v.work.held ≡ true → (t : Tag) × Holds n t v
+  held_tag n v e = go v.work.held refl
+    where
+      go : (h : Option (ℕ × Tag)) → v.work.held ≡ h → (t : Tag) × Holds n t v
+      go None f = absurd (not_true (sym (ap (holds_number n) f) ∙ e))
+      go (Some h) f = dite (ℕ_discrete h.0 n) (λ same. (h.1, f ∙ (λ z. Some (same z, h.1)))) (λ apart. absurd (not_true (sym (ne_eqb h.0 n apart) ∙ sym (ap (holds_number n) f) ∙ e)))
+
+  pub lead_is : (views : List (View T)) (v : View T) → get_elem? views 0 ≡ some v → lead_of views ≡ v.lead
   lead_is [] v e = absurd (some-ne-none v (sym e))
   lead_is (u ∷ us) v e = ap (λ (w : View T). w.lead) (some-injective u v e)
 
@@ -70,6 +77,10 @@ module _ {J R T : Type 0} (job : J → Ticket T) (piece : R → Ticket T) (slots
   pub only_holder : (s : St) (r : Rule s) (n j : ℕ) (tag : Tag) → IsHeldBy s.views n tag j → r.cells (n % slots) ≡ (n, taken j)
   only_holder s r n j tag h = ((r.each_seat j h.0 h.1).holds n tag h.2).1
 
+  -- two seats that hold one number are one
+  pub one_holder : (s : St) (r : Rule s) (n j k : ℕ) (t u : Tag) → IsHeldBy s.views n t j → IsHeldBy s.views n u k → j ≡ k
+  one_holder s r n j k t u a b = let e : suc j ≡ suc k = ap (λ (c : Cell). holder c.1) (sym (only_holder s r n j t a) ∙ only_holder s r n k u b) in omega arith
+
   not_held : (s : St) (r : Rule s) (n : ℕ) → holder (r.cells (n % slots)).1 ≡ 0 → IsHeldByNone job piece slots topic s n
   not_held s r n loose = λ j tag h. no_less 0 (suc j) (sym loose ∙ ap (λ (c : Cell). holder c.1) (only_holder s r n j tag h)) (omega arith)
 
@@ -84,13 +95,6 @@ module _ {J R T : Type 0} (job : J → Ticket T) (piece : R → Ticket T) (slots
         k.0,
         subst (StandsIn job piece slots topic s n tag) (sym (taken_by s.views n (word_of s.words i) k.1 ∙ ap Taken place)) (k.1, k.3, only),
       )
-    where
-      held_tag : (n : ℕ) (u : View T) → holds_number n u.work.held ≡ true → (t : Tag) × Holds n t u
-      held_tag n u e = go u.work.held refl
-        where
-          go : (h : Option (ℕ × Tag)) → u.work.held ≡ h → (t : Tag) × Holds n t u
-          go None f = absurd (not_true (sym (ap (holds_number n) f) ∙ e))
-          go (Some h) f = dite (ℕ_discrete h.0 n) (λ same. (h.1, f ∙ (λ z. Some (same z, h.1)))) (λ apart. absurd (not_true (sym (ne_eqb h.0 n apart) ∙ sym (ap (holds_number n) f) ∙ e)))
   stands s r n out done is k = let i : ℕ = n % slots in (k.0, subst (StandsIn job piece slots topic s n (tag_of s.words i)) (sym (done_by s.views n (word_of s.words i) k.1)) (k.1, k.2, not_held s r n (ap holder is)))
 
   -- how many slices the core has, and up to which number they are published

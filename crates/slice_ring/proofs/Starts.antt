@@ -1,19 +1,15 @@
 -- A new table meets the rule.
-use Rattle.std.proofs.Common.{◌≡◌, ℕ, zero, suc, ◌+◌, ◌*◌, ◌%◌, ◌<◌, ◌≤◌, ◌⊎◌, inl, inr, List, [], ◌∷◌, length, get_or, map, replicate, sym, refl, ap, ◌∙◌, subst, arith}
+use Rattle.std.proofs.Common.{◌≡◌, ℕ, zero, suc, ◌+◌, ◌*◌, ◌<◌, ◌≤◌, inl, List, [], ◌∷◌, length, get_or, map, replicate, sym, refl, ap, subst, arith}
 use mathlib.Core.Option.{some, some-injective, some-ne-none}
 use lib.ListN.{get_elem?}
 use Rattle.std.proofs.Math.Nat.{mod-eq_of_lt}
-use Rattle.std.specs.Prelude.{Option, Some, None}
+use Rattle.std.specs.Prelude.{None}
 use Rattle.atomic_table.specs.Table.{opening}
-use Rattle.slice_ring.specs.declared.views.Content.{Content}
-use Rattle.slice_ring.specs.declared.views.Look.{Look}
-use Rattle.slice_ring.specs.declared.views.Role.TheVariants.{Leads}
 use Rattle.slice_ring.specs.declared.views.View.{View}
-use Rattle.slice_ring.specs.Rule.{free, Holds, LookHolds, SeatHolds, word_of, tag_of, RingHolds}
+use Rattle.slice_ring.specs.Rule.{free, LookHolds, SeatHolds, word_of, tag_of, RingHolds}
 use Rattle.slice_ring.specs.Ticket.{Ticket}
 use Rattle.slice_ring.specs.Steps.{begins}
 use Rattle.slice_ring.proofs.Workers.{none_some, no_less}
-use Rattle.slice_ring.proofs.Leads.{not_both}
 
 all_same : (n j z : ℕ) → get_or (replicate n z) j z ≡ z
 all_same zero j z = refl

@@ -1,5 +1,5 @@
 -- What stays of the ring's rule when one slot and one seat move.
-use Rattle.std.proofs.Common.{◌≡◌, ℕ, suc, ◌+◌, ◌*◌, ◌%◌, ◌<◌, ◌≤◌, ◌≢◌, ◌⊎◌, inl, inr, List, [], ◌∷◌, zero, length, get_or, set, sym, refl, ap, ◌∙◌, subst, ⊎_elim, arith, length-set, get_or-set_other}
+use Rattle.std.proofs.Common.{◌≡◌, ℕ, suc, ◌+◌, ◌*◌, ◌%◌, ◌<◌, ◌≤◌, ◌≢◌, inl, inr, List, [], ◌∷◌, zero, length, get_or, set, sym, refl, ap, ◌∙◌, subst, ⊎_elim, arith, length-set, get_or-set_other}
 use mathlib.Core.Path.{Path}
 use mathlib.Core.Option.{some, some-injective, some-ne-none}
 use mathlib.Core.Option as maybe
@@ -7,9 +7,9 @@ use mathlib.Core.Logic.{dite}
 use native.Mathlib.Decide.{ℕ_discrete}
 use lib.ListN.{get_elem?}
 use lib.Seq.{set-get_or}
-use Rattle.std.specs.Prelude.{Option, None}
+use Rattle.std.specs.Prelude.{Option}
 use Rattle.atomic_table.specs.Table.{State, keeps, stepped}
-use Rattle.atomic_table.proofs.Lists.{at_set, set_else, set_again}
+use Rattle.atomic_table.proofs.Lists.{at_set, set_else}
 use Rattle.slice_ring.specs.declared.views.Content.{Content}
 use Rattle.slice_ring.specs.declared.views.Role.TheVariants.{Leads}
 use Rattle.slice_ring.specs.declared.views.Lead.{Lead}

@@ -1,9 +1,6 @@
 -- The steps of a worker's claim keep the ring's rule.
-use Rattle.std.proofs.Common.{◌≡◌, ℕ, zero, suc, ◌+◌, ◌*◌, ◌%◌, ◌^◌, ◌<◌, ◌≤◌, ◌≢◌, ◌⊎◌, inl, inr, eqb, List, [], ◌∷◌, length, get_or, set, sym, refl, ap, ◌∙◌, subst, ⊎_elim, le_refl, mod-lt, arith, length-set, get_or-set_other, get_or-set_same}
-use mathlib.Core.Path.{Path}
+use Rattle.std.proofs.Common.{◌≡◌, ℕ, zero, suc, ◌+◌, ◌*◌, ◌%◌, ◌<◌, ◌≤◌, ◌≢◌, eqb, List, [], ◌∷◌, length, get_or, set, sym, refl, ap, ◌∙◌, subst, ⊎_elim, le_refl, mod-lt, arith, length-set, get_or-set_other, get_or-set_same}
 use mathlib.Core.Option.{some, none, some-injective, some-ne-none}
-use mathlib.Core.Logic.{dite}
-use native.Mathlib.Decide.{ℕ_discrete}
 use lib.ListN.{get_elem?}
 use prog.Atomic.{either}
 use Rattle.std.specs.Prelude.{Option, Some, None, IfSome}
@@ -16,10 +13,10 @@ use Rattle.slice_ring.specs.declared.views.Role.TheVariants.{Leads, Works, Spent
 use Rattle.slice_ring.specs.declared.views.Lead.{Lead}
 use Rattle.slice_ring.specs.declared.views.Look.{Look}
 use Rattle.slice_ring.specs.declared.views.View.{View}
-use Rattle.slice_ring.specs.Rule.{SlotPhase, free, ready, taken, done, Cell, word_of, tag_of, Holds, IsHeldBy, IsUnused, LookHolds, InPhase, SlotHolds, SeatHolds, LeadHolds, RingHolds}
+use Rattle.slice_ring.specs.Rule.{SlotPhase, free, ready, taken, done, Cell, word_of, tag_of, LookHolds, InPhase, LeadHolds, RingHolds}
 use Rattle.slice_ring.specs.Ticket.{Tag, Ticket}
 use Rattle.slice_ring.specs.Steps.{look_at, relooked, sees_word, sees_first, sees_second, loses, takes_job, finishes, glances, saw_word, saw_first, saw_second, claimed, finished, glanced}
-use Rattle.slice_ring.proofs.Stays.{put, put_here, holder, set_at, Onward, Looks, Apart, looks_stay, words_same, own_word, tag_same, moved, unmoved}
+use Rattle.slice_ring.proofs.Stays.{put, put_here, holder, set_at, Onward, looks_stay, words_same, own_word, tag_same, moved, unmoved}
 
 abbrev pub rank : Role → ℕ
 rank Leads = 0
@@ -140,7 +137,7 @@ module _ {J R T : Type 0} (job : J → Ticket T) (piece : R → Ticket T) (slots
       record { published = old.published; first = old.first; second = λ q e _. ap (λ (z : ℕ). get_or s.words z 0) is }
       (λ j e. let same : i ≡ j = omega arith in ap (λ (z : ℕ). (sees_second z x me.0, me.1)) same)
 
-  ready_slot : (s : St) (r : Rule s) (i n : ℕ) → i < slots → word_of s.words i ≡ 4 * n + 1
+  pub ready_slot : (s : St) (r : Rule s) (i n : ℕ) → i < slots → word_of s.words i ≡ 4 * n + 1
       → ((r.cells i).0 ≡ n) × ((r.cells i).1 ≡ ready) × InPhase job piece slots topic r.leader.lead s.homes s.views i n (word_of s.words i) (tag_of s.words i) ready
   ready_slot s r i n near e = let c = r.cells i in is_ready r.leader.lead s.homes s.views i c.0 n (word_of s.words i) (tag_of s.words i) e c.1 (r.each_slot i near).phase
 

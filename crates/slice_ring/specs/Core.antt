@@ -1,12 +1,13 @@
 -- The ring read as the core: its words and the views of its seats are a state of the slices.
-use Rattle.std.specs.Prelude.{◌≡◌, ℕ, zero, suc, ◌+◌, ◌-◌, ◌*◌, ◌%◌, ◌^◌, ◌<◌, ◌≤◌, Bool, true, false, ◌==◌, List, [], ◌∷◌, length, map, Option, Some, None, slice_index_or, if◌then◌else◌}
+use Rattle.std.specs.Prelude.{◌≡◌, ℕ, zero, suc, ◌+◌, ◌-◌, ◌*◌, ◌%◌, ◌^◌, ◌<◌, ◌≤◌, Bool, true, false, ◌==◌, List, [], ◌∷◌, length, map, Option, Some, None, slice_index_or, slice_set, if◌then◌else◌}
 use Rattle.std.specs.List.{range_with_len}
 use mathlib.Core.Option.{some}
 use lib.ListN.{get_elem?}
 use Rattle.atomic_table.specs.Table.{State}
 use Rattle.weave_core.specs.declared.moves.Phase.{Phase}
 use Rattle.weave_core.specs.declared.moves.Phase.TheVariants.{Absent, Ready, Taken, Done}
-use Rattle.weave_core.specs.Moves.{WeaveState, published}
+use Rattle.weave_core.specs.declared.moves.Move.{Move}
+use Rattle.weave_core.specs.Moves.{WeaveState, published, is_allowed, after}
 use Rattle.slice_ring.specs.declared.views.Content.{Content}
 use Rattle.slice_ring.specs.declared.views.Content.TheVariants.{Job, Piece}
 use Rattle.slice_ring.specs.declared.views.Lead.{Lead}
@@ -64,3 +65,11 @@ module _ {J R T : Type 0} (job : J → Ticket T) (piece : R → Ticket T) (slots
   -- the same, and the slot's tag words are the tag that the slice was published with
   abbrev pub IsSlice : Phase → Type 0
   IsSlice phase = (get_elem? (lead_of s.views).tags n ≡ some (tag_of s.words (n % slots))) × StandsIn (tag_of s.words (n % slots)) phase
+
+-- the seat at `place` made a step on the word k, which is x since then, and knows w
+abbrev pub HasStepped : {S T : Type 0} → ℕ → ℕ → ℕ → View T → State S (View T) → State S (View T) → Type 0
+HasStepped k x place w s s' = (s'.words ≡ slice_set s.words k x) × (s'.views ≡ slice_set s.views place w)
+
+-- between two states of a ring the core makes this move, which is allowed
+abbrev pub MakesMove : {S T : Type 0} → ℕ → State S (View T) → Move → State S (View T) → Type 0
+MakesMove slots s m s' = (is_allowed (core_of slots s) m ≡ true) × (core_of slots s' ≡ after (core_of slots s) m)

@@ -16,7 +16,8 @@ impl<J: Numbered + Drop, R: Numbered<Topic = J::Topic> + Drop> SlotTable<J, R> {
         topic: &J::Topic,
     ) -> Result<(SlotTable<J, R>, TableSeat<J, R>), AllocError>
         requires { (0 < slots) × (slots ≤ 32) }
-        ensures { IfOk result (λ r. (r.1.table_id ≡ r.0.table.shared.table_id) × (r.0.slots ≡ slots) × (r.0.table.shared.key.topic.value ≡ topic.now) × IsOpening slots 0 topic.now r.1.me) }
+        ensures { IfOk result (λ r. (r.1.table_id ≡ r.0.table.shared.table_id) × (r.0.slots ≡ slots)
+            × (r.0.table.shared.key.topic.value ≡ topic.now) × IsOpening slots 0 topic.now r.1.me) }
     {
         let words = Vec::from_elem(alloc, 0u64, 3 * slots + 1)?;
         let key = Key {
@@ -30,16 +31,20 @@ impl<J: Numbered + Drop, R: Numbered<Topic = J::Topic> + Drop> SlotTable<J, R> {
     // Gives the lead the turn of the slot i.
     fn open_slot(&self, lead: &mut TableSeat<J, R>, i: usize)
         requires near { i < self.now.slots }
-        requires lead { (lead.old.table_id ≡ self.now.table.shared.table_id) × IsOpening self.now.slots i self.now.table.shared.key.topic.value lead.old.me }
-        ensures { IsSame lead.old lead.new × IsOpening self.now.slots (i + 1) self.now.table.shared.key.topic.value lead.new.me }
+        requires lead { (lead.old.table_id ≡ self.now.table.shared.table_id)
+            × IsOpening self.now.slots i self.now.table.shared.key.topic.value lead.old.me }
+        ensures { IsSame lead.old lead.new
+            × IsOpening self.now.slots (i + 1) self.now.table.shared.key.topic.value lead.new.me }
     {
         self.table.shared.load::<Open>(lead, 3 * i + 1);
         lead.turn();
     }
 
     fn open_slots(&self, lead: &mut TableSeat<J, R>)
-        requires { (lead.old.table_id ≡ self.now.table.shared.table_id) × IsOpening self.now.slots 0 self.now.table.shared.key.topic.value lead.old.me }
-        ensures { IsSame lead.old lead.new × IsOpening self.now.slots self.now.slots self.now.table.shared.key.topic.value lead.new.me }
+        requires { (lead.old.table_id ≡ self.now.table.shared.table_id)
+            × IsOpening self.now.slots 0 self.now.table.shared.key.topic.value lead.old.me }
+        ensures { IsSame lead.old lead.new
+            × IsOpening self.now.slots self.now.slots self.now.table.shared.key.topic.value lead.new.me }
     {
         for i in 0..self.slots {
             self.open_slot(lead, i);
@@ -53,7 +58,9 @@ impl<J: Numbered + Drop, R: Numbered<Topic = J::Topic> + Drop> SlotTable<J, R> {
         topic: &J::Topic,
     ) -> Result<(SlotTable<J, R>, TableSeat<J, R>), AllocError>
         requires { (0 < slots) × (slots ≤ 32) }
-        ensures { IfOk result (λ r. (r.1.table_id ≡ r.0.table.shared.table_id) × (r.0.slots ≡ slots) × (r.0.table.shared.key.topic.value ≡ topic.now) × IsOpening slots slots topic.now r.1.me) }
+        ensures { IfOk result (λ r. (r.1.table_id ≡ r.0.table.shared.table_id) × (r.0.slots ≡ slots)
+            × (r.0.table.shared.key.topic.value ≡ topic.now)
+            × IsOpening slots slots topic.now r.1.me) }
     {
         let (table, mut lead) = SlotTable::vacant(alloc, slots, topic)?;
         table.open_slots(&mut lead);

@@ -14,10 +14,12 @@ use crate::views::{Content, Numbered};
 impl<J: Numbered + Drop, R: Numbered<Topic = J::Topic> + Drop> SlotTable<J, R> {
     // Stores the first tag word of the slot i, which is that of the next job.
     fn store_first(&self, lead: &mut TableSeat<J, R>, i: usize, first: u64)
-        requires seat { (lead.old.table_id ≡ self.now.table.shared.table_id) × (lead.old.me.0.role ≡ Leads) }
+        requires seat { (lead.old.table_id ≡ self.now.table.shared.table_id)
+            × (lead.old.me.0.role ≡ Leads) }
         requires slot { (i ≡ length lead.old.me.0.lead.tags % self.now.slots) × (i < self.now.slots)
             × (length lead.old.me.0.lead.tags < lead.old.me.0.lead.merged + self.now.slots) }
-        ensures { IsSame lead.old lead.new × (lead.new.me ≡ (stores_first first lead.old.me.0, lead.old.me.1)) }
+        ensures { IsSame lead.old lead.new
+            × (lead.new.me ≡ (stores_first first lead.old.me.0, lead.old.me.1)) }
     {
         self.table
             .shared
@@ -26,10 +28,12 @@ impl<J: Numbered + Drop, R: Numbered<Topic = J::Topic> + Drop> SlotTable<J, R> {
 
     // The same for the second tag word.
     fn store_second(&self, lead: &mut TableSeat<J, R>, i: usize, second: u64)
-        requires seat { (lead.old.table_id ≡ self.now.table.shared.table_id) × (lead.old.me.0.role ≡ Leads) }
+        requires seat { (lead.old.table_id ≡ self.now.table.shared.table_id)
+            × (lead.old.me.0.role ≡ Leads) }
         requires slot { (i ≡ length lead.old.me.0.lead.tags % self.now.slots) × (i < self.now.slots)
             × (length lead.old.me.0.lead.tags < lead.old.me.0.lead.merged + self.now.slots) }
-        ensures { IsSame lead.old lead.new × (lead.new.me ≡ (stores_second second lead.old.me.0, lead.old.me.1)) }
+        ensures { IsSame lead.old lead.new
+            × (lead.new.me ≡ (stores_second second lead.old.me.0, lead.old.me.1)) }
     {
         self.table
             .shared
@@ -38,15 +42,20 @@ impl<J: Numbered + Drop, R: Numbered<Topic = J::Topic> + Drop> SlotTable<J, R> {
 
     // The job lies in the slot i, and its tag words are stored: now it is ready.
     fn store_ready(&self, lead: &mut TableSeat<J, R>, i: usize, ready: u64)
-        requires seat { (lead.old.table_id ≡ self.now.table.shared.table_id) × (lead.old.me.0.role ≡ Leads) }
+        requires seat { (lead.old.table_id ≡ self.now.table.shared.table_id)
+            × (lead.old.me.0.role ≡ Leads) }
         requires slot { (i ≡ length lead.old.me.0.lead.tags % self.now.slots) × (i < self.now.slots)
             × (length lead.old.me.0.lead.tags < lead.old.me.0.lead.merged + self.now.slots) }
-        requires few { (ready ≡ 4 * length lead.old.me.0.lead.tags + 1) × (length lead.old.me.0.lead.tags < 2 ^ 62) × (lead.old.me.0.lead.closed ≡ false) }
+        requires few { (ready ≡ 4 * length lead.old.me.0.lead.tags + 1)
+            × (length lead.old.me.0.lead.tags < 2 ^ 62) × (lead.old.me.0.lead.closed ≡ false) }
         requires job { (x : J) × (lead.old.me.1 ≡ (i, Some (Job x)) ∷ rest lead.old.me.1)
-            × ((J.ticket x).number ≡ length lead.old.me.0.lead.tags) × ((J.ticket x).topic ≡ self.now.table.shared.key.topic.value)
-            × (lead.old.me.0.lead.first ≡ Some (J.ticket x).tag.0) × (lead.old.me.0.lead.second ≡ Some (J.ticket x).tag.1) }
+            × ((J.ticket x).number ≡ length lead.old.me.0.lead.tags)
+            × ((J.ticket x).topic ≡ self.now.table.shared.key.topic.value)
+            × (lead.old.me.0.lead.first ≡ Some (J.ticket x).tag.0)
+            × (lead.old.me.0.lead.second ≡ Some (J.ticket x).tag.1) }
         ensures same { IsSame lead.old lead.new }
-        ensures published { (tag : Tag) → lead.old.me.0.lead.first ≡ Some tag.0 → lead.old.me.0.lead.second ≡ Some tag.1
+        ensures published { (tag : Tag) → lead.old.me.0.lead.first ≡ Some tag.0
+            → lead.old.me.0.lead.second ≡ Some tag.1
             → lead.new.me ≡ (publishes tag lead.old.me.0, rest lead.old.me.1) }
     {
         self.table.shared.store::<Publish>(lead, 3 * i + 1, ready)
@@ -54,9 +63,12 @@ impl<J: Numbered + Drop, R: Numbered<Topic = J::Topic> + Drop> SlotTable<J, R> {
 
     /// Puts the job into its slot, stores its tag, and makes it ready.
     pub(crate) fn publish(&self, lead: &mut TableSeat<J, R>, job: J)
-        requires seat { (lead.old.table_id ≡ self.now.table.shared.table_id) × IsLeading self.now.slots lead.old.me }
-        requires job { ((J.ticket job).number ≡ length lead.old.me.0.lead.tags) × ((J.ticket job).topic ≡ self.now.table.shared.key.topic.value) }
-        requires room { (length lead.old.me.0.lead.tags < lead.old.me.0.lead.merged + self.now.slots) × (length lead.old.me.0.lead.tags < 2 ^ 62)
+        requires seat { (lead.old.table_id ≡ self.now.table.shared.table_id)
+            × IsLeading self.now.slots lead.old.me }
+        requires job { ((J.ticket job).number ≡ length lead.old.me.0.lead.tags)
+            × ((J.ticket job).topic ≡ self.now.table.shared.key.topic.value) }
+        requires room { (length lead.old.me.0.lead.tags < lead.old.me.0.lead.merged + self.now.slots)
+            × (length lead.old.me.0.lead.tags < 2 ^ 62)
             × (lead.old.me.0.lead.closed ≡ false) }
         ensures same { IsSame lead.old lead.new }
         ensures leads { IsLeading self.now.slots lead.new.me }
@@ -73,26 +85,36 @@ impl<J: Numbered + Drop, R: Numbered<Topic = J::Topic> + Drop> SlotTable<J, R> {
 
     // The word of the slot i, which is that of the next piece. Where it is done, the lead has the slot's turn.
     fn load_done(&self, lead: &mut TableSeat<J, R>, i: usize) -> u64
-        requires seat { (lead.old.table_id ≡ self.now.table.shared.table_id) × (lead.old.me.0.role ≡ Leads) × (lead.old.me.0.topic ≡ Some self.now.table.shared.key.topic.value) }
-        requires out { (lead.old.me.0.lead.merged < length lead.old.me.0.lead.tags) × (lead.old.me.0.lead.opened ≡ self.now.slots) }
+        requires seat { (lead.old.table_id ≡ self.now.table.shared.table_id)
+            × (lead.old.me.0.role ≡ Leads)
+            × (lead.old.me.0.topic ≡ Some self.now.table.shared.key.topic.value) }
+        requires out { (lead.old.me.0.lead.merged < length lead.old.me.0.lead.tags)
+            × (lead.old.me.0.lead.opened ≡ self.now.slots) }
         requires slot { (i ≡ lead.old.me.0.lead.merged % self.now.slots) × (i < self.now.slots) }
         ensures same { IsSame lead.old lead.new }
         ensures done { result ≡ 4 * lead.old.me.0.lead.merged + 3
-            → (y : R) × (lead.new.me ≡ (merges lead.old.me.0, (i, Some (Piece y)) ∷ lead.old.me.1)) × IsAnswer lead.old.me.0 self.now.table.shared.key.topic.value (R.ticket y) }
-        ensures other { result ≢ 4 * lead.old.me.0.lead.merged + 3 → lead.new.me ≡ (glances result lead.old.me.0, lead.old.me.1) }
+            → (y : R) × (lead.new.me ≡ (merges lead.old.me.0, (i, Some (Piece y)) ∷ lead.old.me.1))
+            × IsAnswer lead.old.me.0 self.now.table.shared.key.topic.value (R.ticket y) }
+        ensures other { result ≢ 4 * lead.old.me.0.lead.merged + 3
+            → lead.new.me ≡ (glances result lead.old.me.0, lead.old.me.1) }
     {
         self.table.shared.load::<Collect>(lead, 3 * i + 1)
     }
 
     /// The piece of the next job to be merged, if it is done. So many are merged.
     pub(crate) fn collect(&self, lead: &mut TableSeat<J, R>, merged: u64) -> Option<R>
-        requires seat { (lead.old.table_id ≡ self.now.table.shared.table_id) × (lead.old.me.0.topic ≡ Some self.now.table.shared.key.topic.value) × IsLeading self.now.slots lead.old.me }
-        requires out { (merged ≡ lead.old.me.0.lead.merged) × (merged < length lead.old.me.0.lead.tags) × (merged < 2 ^ 62)
+        requires seat { (lead.old.table_id ≡ self.now.table.shared.table_id)
+            × (lead.old.me.0.topic ≡ Some self.now.table.shared.key.topic.value)
+            × IsLeading self.now.slots lead.old.me }
+        requires out { (merged ≡ lead.old.me.0.lead.merged)
+            × (merged < length lead.old.me.0.lead.tags) × (merged < 2 ^ 62)
             × (length lead.old.me.0.lead.tags ≤ merged + self.now.slots) }
         ensures same { IsSame lead.old lead.new }
         ensures leads { IsLeading self.now.slots lead.new.me }
-        ensures some { IfSome result (λ y. (lead.new.me.0 ≡ merges lead.old.me.0) × IsAnswer lead.old.me.0 self.now.table.shared.key.topic.value (R.ticket y)) }
-        ensures none { IfNone result ((word : ℕ) × (word ≢ 4 * merged + 3) × (lead.new.me.0 ≡ glances word lead.old.me.0)) }
+        ensures some { IfSome result (λ y. (lead.new.me.0 ≡ merges lead.old.me.0)
+            × IsAnswer lead.old.me.0 self.now.table.shared.key.topic.value (R.ticket y)) }
+        ensures none { IfNone result ((word : ℕ) × (word ≢ 4 * merged + 3)
+            × (lead.new.me.0 ≡ glances word lead.old.me.0)) }
     {
         let i = (merged % self.slots as u64) as usize;
         if self.load_done(lead, i) != 4 * merged + 3 {
@@ -109,7 +131,8 @@ impl<J: Numbered + Drop, R: Numbered<Topic = J::Topic> + Drop> SlotTable<J, R> {
 
     /// Nothing is outstanding.
     pub(crate) fn close(&self, lead: &mut TableSeat<J, R>)
-        requires seat { (lead.old.table_id ≡ self.now.table.shared.table_id) × IsLeading self.now.slots lead.old.me }
+        requires seat { (lead.old.table_id ≡ self.now.table.shared.table_id)
+            × IsLeading self.now.slots lead.old.me }
         requires settled { lead.old.me.0.lead.merged ≡ length lead.old.me.0.lead.tags }
         ensures same { IsSame lead.old lead.new }
         ensures leads { IsLeading self.now.slots lead.new.me }
@@ -120,18 +143,24 @@ impl<J: Numbered + Drop, R: Numbered<Topic = J::Topic> + Drop> SlotTable<J, R> {
 
     /// The seat holds no job.
     pub(crate) fn retire(&self, lead: &mut TableSeat<J, R>, seat: TableSeat<J, R>)
-        requires lead { (lead.old.table_id ≡ self.now.table.shared.table_id) × IsLeading self.now.slots lead.old.me }
-        requires seat { (seat.table_id ≡ self.now.table.shared.table_id) × IsWorking self.now.slots seat.me × (seat.me.0.work.held ≡ None) }
-        ensures { IsSame lead.old lead.new × (lead.new.me ≡ (takes_back lead.old.me.0, lead.old.me.1)) }
+        requires lead { (lead.old.table_id ≡ self.now.table.shared.table_id)
+            × IsLeading self.now.slots lead.old.me }
+        requires seat { (seat.table_id ≡ self.now.table.shared.table_id)
+            × IsWorking self.now.slots seat.me × (seat.me.0.work.held ≡ None) }
+        ensures { IsSame lead.old lead.new
+            × (lead.new.me ≡ (takes_back lead.old.me.0, lead.old.me.1)) }
     {
         self.table.shared.join_seat::<Retire>(lead, seat)
     }
 
     /// A new worker's seat, which holds no job.
     pub(crate) fn work_seat(&self, lead: &mut TableSeat<J, R>) -> TableSeat<J, R>
-        requires lead { (lead.old.table_id ≡ self.now.table.shared.table_id) × IsLeading self.now.slots lead.old.me }
+        requires lead { (lead.old.table_id ≡ self.now.table.shared.table_id)
+            × IsLeading self.now.slots lead.old.me }
         ensures lead { IsSame lead.old lead.new × (lead.new.me ≡ lead.old.me) }
-        ensures seat { (result.table_id ≡ self.now.table.shared.table_id) × (result.me.0.topic ≡ lead.old.me.0.topic) × IsWorking self.now.slots result.me × (result.me.0.work.held ≡ None) }
+        ensures seat { (result.table_id ≡ self.now.table.shared.table_id)
+            × (result.me.0.topic ≡ lead.old.me.0.topic) × IsWorking self.now.slots result.me
+            × (result.me.0.work.held ≡ None) }
     {
         self.table.shared.split_seat::<Engage>(lead)
     }

@@ -9,8 +9,8 @@ use crate::views::Numbered;
 use std::alloc::{AllocError, Global};
 use std::marker::Model;
 
-/// A ring of slots that the lead and the workers share. Contracts see it as a `RingId`, which never changes. Its words, its slots
-/// and the views of its seats meet `RingHolds` between any two steps of any seats.
+/// A ring of slots that the lead and the workers share. Contracts see it as a `RingId`, which never changes. Its
+/// words, its slots and the views of its seats meet `RingHolds` between any two steps of any seats.
 #[derive(Drop)]
 pub struct Ring<J: Numbered + Send + Drop, R: Numbered<Topic = J::Topic> + Send + Drop> {
     slot_table: SlotTable<J, R>,
@@ -25,8 +25,8 @@ impl<J: Numbered + Send + Drop, R: Numbered<Topic = J::Topic> + Send + Drop> Mod
 }
 
 impl<J: Numbered + Send + Drop, R: Numbered<Topic = J::Topic> + Send + Drop> Ring<J, R> {
-    /// A ring about the topic, with 1 to 32 slots, its lead's seat, and 1 to 17 seats for workers. After this no call takes memory,
-    /// and none waits. The topic is read by contracts alone.
+    /// A ring about the topic, with 1 to 32 slots, its lead's seat, and 1 to 17 seats for workers. After this no
+    /// call takes memory, and none waits. The topic is read by contracts alone.
     pub fn create(
         alloc: Global,
         slots: u32,
@@ -37,7 +37,8 @@ impl<J: Numbered + Send + Drop, R: Numbered<Topic = J::Topic> + Send + Drop> Rin
         requires workers { (1 ≤ workers) × (workers ≤ 17) }
         ensures ring { IfOk result (λ r. (slots_of r.0 ≡ slots) × (r.0.topic ≡ topic.now)) }
         ensures lead { IfOk result (λ r. IsOf r.0 r.1 × IsFresh r.1) }
-        ensures seats { IfOk result (λ r. (length r.2.items ≡ workers) × All (IsIdle r.0) r.2.items) }
+        ensures seats { IfOk result (λ r. (length r.2.items ≡ workers)
+            × All (IsIdle r.0) r.2.items) }
     {
         let (slot_table, seat) = SlotTable::create(alloc, slots as usize, topic)?;
         let ring = Ring { slot_table };
@@ -68,7 +69,8 @@ impl<J: Numbered + Send + Drop, R: Numbered<Topic = J::Topic> + Send + Drop> Rin
     ) -> Result<Vec<WorkSeat<J, R>>, AllocError>
         requires { IsOf self.now lead.old }
         ensures lead { lead.new ≡ lead.old }
-        ensures seats { IfOk result (λ v. (length v.items ≡ workers) × All (IsIdle self.now) v.items) }
+        ensures seats { IfOk result (λ v. (length v.items ≡ workers)
+            × All (IsIdle self.now) v.items) }
     {
         let mut seats = Vec::new(alloc);
         for made in 0..workers {
@@ -85,18 +87,22 @@ impl<J: Numbered + Send + Drop, R: Numbered<Topic = J::Topic> + Send + Drop> Rin
         self.slot_table.slots as u32
     }
 
-    /// The word of a slot as a load finds it, which another step may change at once: so nothing is said of it. It is for tests.
+    /// The word of a slot as a load finds it, which another step may change at once: so nothing is said of it. It
+    /// is for tests.
     pub fn word(&self, slot: u32) -> u64
         requires { slot < slots_of self.now }
     {
         self.slot_table.table.shared.peek(3 * slot as usize + 1)
     }
 
-    /// Publishes a job, for a worker to claim. It has the next number, counted from 0, and fewer than all slots are outstanding.
+    /// Publishes a job, for a worker to claim. It has the next number, counted from 0, and fewer than all slots are
+    /// outstanding.
     pub fn publish(&self, lead: &mut LeadSeat<J, R>, job: J)
         requires of_ring { IsOf self.now lead.old }
-        requires job { ((J.ticket job).number ≡ published_by lead.old) × ((J.ticket job).topic ≡ self.now.topic) }
-        requires room { (published_by lead.old < merged_by lead.old + slots_of self.now) × (published_by lead.old < 2 ^ 62) }
+        requires job { ((J.ticket job).number ≡ published_by lead.old)
+            × ((J.ticket job).topic ≡ self.now.topic) }
+        requires room { (published_by lead.old < merged_by lead.old + slots_of self.now)
+            × (published_by lead.old < 2 ^ 62) }
         requires open_is { IsOpen lead.old }
         ensures { lead.new ≡ with_view lead.old (publishes (J.ticket job).tag lead.old.view) }
     {
@@ -104,35 +110,41 @@ impl<J: Numbered + Send + Drop, R: Numbered<Topic = J::Topic> + Send + Drop> Rin
         lead.published += 1;
     }
 
-    /// A job that was ready. None where each slot's word was not that of a ready job, or was that of one that another seat took first.
-    /// It looks at each slot's word at most once, and makes at most one exchange on it.
+    /// A job that was ready. None where each slot's word was not that of a ready job, or was that of one that
+    /// another seat took first. It looks at each slot's word at most once, and makes at most one exchange on it.
     pub fn claim(&self, seat: &mut WorkSeat<J, R>) -> Option<J>
         requires { IsIdle self.now seat.old }
         ensures seat { IsOf self.now seat.new × (seat.new.place ≡ seat.old.place) }
-        ensures some { IfSome result (λ job. HoldsJob (J.ticket job) seat.new × ((J.ticket job).topic ≡ self.now.topic)
+        ensures some { IfSome result (λ job. HoldsJob (J.ticket job) seat.new
+            × ((J.ticket job).topic ≡ self.now.topic)
             × WasReady (slots_of self.now) seat.old.view.looks (J.ticket job) seat.new.view) }
         ensures none { IfNone result (HoldsNone seat.new
-            × ((i : ℕ) → i < slots_of self.now → WasMissed seat.old.view.looks (look_at i seat.new.view))) }
+            × ((i : ℕ) → i < slots_of self.now
+            → WasMissed seat.old.view.looks (look_at i seat.new.view))) }
     {
         self.slot_table.claim(&mut seat.seat)
     }
 
-    /// Puts back the piece that answers the job which the seat holds: it has the job's number and tag, and the ring's topic.
+    /// Puts back the piece that answers the job which the seat holds: it has the job's number and tag, and the
+    /// ring's topic.
     pub fn deposit(&self, seat: &mut WorkSeat<J, R>, piece: R)
         requires of_ring { IsOf self.now seat.old }
-        requires answers { HoldsJob (R.ticket piece) seat.old × ((R.ticket piece).topic ≡ self.now.topic) }
+        requires answers { HoldsJob (R.ticket piece) seat.old
+            × ((R.ticket piece).topic ≡ self.now.topic) }
         ensures { seat.new ≡ with_view seat.old (finishes seat.old.view) }
     {
         self.slot_table.deposit(&mut seat.seat, piece)
     }
 
-    /// The piece of the lowest outstanding job, of which there is one. None where the word of its slot was another than that of
-    /// the done job.
+    /// The piece of the lowest outstanding job, of which there is one. None where the word of its slot was another
+    /// than that of the done job.
     pub fn collect(&self, lead: &mut LeadSeat<J, R>) -> Option<R>
         requires of_ring { IsOf self.now lead.old }
         requires out { merged_by lead.old < published_by lead.old }
-        ensures some { IfSome result (λ piece. (lead.new ≡ with_view lead.old (merges lead.old.view)) × IsAnswer lead.old.view self.now.topic (R.ticket piece)) }
-        ensures none { IfNone result ((word : ℕ) × (word ≢ 4 * merged_by lead.old + 3) × (lead.new ≡ with_view lead.old (glances word lead.old.view))) }
+        ensures some { IfSome result (λ piece. (lead.new ≡ with_view lead.old (merges lead.old.view))
+            × IsAnswer lead.old.view self.now.topic (R.ticket piece)) }
+        ensures none { IfNone result ((word : ℕ) × (word ≢ 4 * merged_by lead.old + 3)
+            × (lead.new ≡ with_view lead.old (glances word lead.old.view))) }
     {
         let piece = self.slot_table.collect(&mut lead.seat, lead.merged)?;
         lead.merged += 1;
@@ -152,7 +164,8 @@ impl<J: Numbered + Send + Drop, R: Numbered<Topic = J::Topic> + Send + Drop> Rin
     /// Whether the closing word, loaded in this call, was 1.
     pub fn is_closed(&self, seat: &mut WorkSeat<J, R>) -> bool
         requires { IsOf self.now seat.old }
-        ensures { (word : ℕ) × (seat.new ≡ with_view seat.old (glances word seat.old.view)) × (result ≡ (word == 1)) }
+        ensures { (word : ℕ) × (seat.new ≡ with_view seat.old (glances word seat.old.view))
+            × (result ≡ (word == 1)) }
     {
         self.slot_table.is_closed(&mut seat.seat)
     }

@@ -40,8 +40,10 @@ impl<J: Numbered + Send + Drop, R: Numbered<Topic = J::Topic> + Send + Drop> Mod
 
     ghost view = { λ l. record { table = l.seat.table_id; place = l.seat.id; view = l.seat.me.0 } };
 
-    ghost invariant = { λ l. IsLeading l.seat.table_id.slots l.seat.me × (l.published ≡ length l.seat.me.0.lead.tags) × (l.merged ≡ l.seat.me.0.lead.merged)
-        × (l.merged ≤ l.published) × (l.published ≤ l.merged + l.seat.table_id.slots) × (l.published ≤ 2 ^ 62) };
+    ghost invariant = { λ l. IsLeading l.seat.table_id.slots l.seat.me
+        × (l.published ≡ length l.seat.me.0.lead.tags) × (l.merged ≡ l.seat.me.0.lead.merged)
+        × (l.merged ≤ l.published) × (l.published ≤ l.merged + l.seat.table_id.slots)
+        × (l.published ≤ 2 ^ 62) };
 }
 
 impl<J: Numbered + Send + Drop, R: Numbered<Topic = J::Topic> + Send + Drop> LeadSeat<J, R> {

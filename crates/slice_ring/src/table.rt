@@ -44,5 +44,6 @@ pub(crate) struct SlotTable<J: Numbered + Drop, R: Numbered<Topic = J::Topic> + 
         Global,
     >,
     pub(crate) slots: usize,
-    ghost sized: { (table.shared.table_id.words ≡ 3 * slots + 1) × (table.shared.table_id.slots ≡ slots) × (table.shared.key.slots ≡ slots) × (0 < slots) × (slots ≤ 32) },
+    ghost sized: { (table.shared.table_id.words ≡ 3 * slots + 1)
+        × (table.shared.table_id.slots ≡ slots) × (table.shared.key.slots ≡ slots) × (0 < slots) × (slots ≤ 32) },
 }

@@ -36,8 +36,8 @@ pub struct Glance {
     pub look: u64,
 }
 
-/// What a worker's seat keeps of a slot: its word and the count of looks then, the tag words that were loaded after it, and
-/// the word that a lost exchange found.
+/// What a worker's seat keeps of a slot: its word and the count of looks then, the tag words that were loaded after
+/// it, and the word that a lost exchange found.
 pub struct Look {
     pub word: u64,
     pub look: u64,
@@ -53,8 +53,8 @@ pub enum Role {
     Spent,
 }
 
-/// What the lead knows: how many pieces it merged, the tags of the published jobs, the tag words that it stored for the next
-/// job, how many slots it has opened in `create`, and whether it closed the ring.
+/// What the lead knows: how many pieces it merged, the tags of the published jobs, the tag words that it stored for
+/// the next job, how many slots it has opened in `create`, and whether it closed the ring.
 pub struct Lead {
     pub merged: u64,
     pub tags: LinkedList<(u64, u64)>,
@@ -70,8 +70,8 @@ pub struct Work {
     pub kept: LinkedList<Look>,
 }
 
-/// What a seat knows. `looks` counts its loads and exchanges, and `retired` the seats that it took back. `glance` is the word of
-/// a lead's last `collect`, or of a worker's last `is_closed`.
+/// What a seat knows. `looks` counts its loads and exchanges, and `retired` the seats that it took back. `glance`
+/// is the word of a lead's last `collect`, or of a worker's last `is_closed`.
 pub struct View<T> {
     pub role: Role,
     pub topic: Option<T>,

@@ -1,4 +1,5 @@
-//! Tests of the ring and its core, over their public calls alone: that the calls succeed, and that real threads meet.
+//! Tests of the ring and its core, over their public calls alone: that the calls succeed, and that real threads
+//! meet.
 #![tactic(auto)]
 
 #[cfg(test)]

@@ -65,7 +65,8 @@ fn run_all<R: Threads + Wait + Sync>(
         &answer,
         &mut || -> Outcome
             requires { (count ≤ 2 ^ 16) × IsOf ring.now lead.now × IsFresh lead.now }
-            ensures { IsOf ring.entry.now lead.exit.now × IsOver lead.exit.now × (published_by lead.exit.now ≡ count) }
+            ensures { IsOf ring.entry.now lead.exit.now × IsOver lead.exit.now
+                × (published_by lead.exit.now ≡ count) }
         { lead_all(rt, ring, lead, count) },
         seats,
     )

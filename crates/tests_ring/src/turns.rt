@@ -5,7 +5,8 @@ ghost use Rattle.slice_ring.specs.Seats.{IsOf, IsIdle, IsOpen, published_by, mer
 use crate::squares::{Job, SquareLead, SquareSeat, Squares, answer};
 use std::test::Fail;
 
-// What was seen on the way of a job through a ring with one slot: the slot's word when it was ready, taken and done, and the piece.
+// What was seen on the way of a job through a ring with one slot: the slot's word when it was ready, taken and
+// done, and the piece.
 #[derive(Drop)]
 struct Way {
     ready: u64,
@@ -15,17 +16,21 @@ struct Way {
     value: u64,
 }
 
-// The next job goes to the first seat. None where it does not, the second seat gets one too, or the piece is there too soon or not at all.
+// The next job goes to the first seat. None where it does not, the second seat gets one too, or the piece is there
+// too soon or not at all.
 fn way_of_job(
     ring: &Squares,
     lead: &mut SquareLead,
     first: &mut SquareSeat,
     second: &mut SquareSeat,
 ) -> Option<Way>
-    requires lead { IsOf ring.now lead.old × IsOpen lead.old × (merged_by lead.old ≡ published_by lead.old) × (published_by lead.old < 2 ^ 16) }
+    requires lead { IsOf ring.now lead.old × IsOpen lead.old
+        × (merged_by lead.old ≡ published_by lead.old) × (published_by lead.old < 2 ^ 16) }
     requires ring { 0 < slots_of ring.now }
     requires seats { IsIdle ring.now first.old × IsIdle ring.now second.old }
-    ensures lead { IfSome result (λ _. IsOf ring.now lead.new × IsOpen lead.new × (merged_by lead.new ≡ published_by lead.new) × (published_by lead.new ≡ published_by lead.old + 1)) }
+    ensures lead { IfSome result (λ _. IsOf ring.now lead.new × IsOpen lead.new
+        × (merged_by lead.new ≡ published_by lead.new)
+        × (published_by lead.new ≡ published_by lead.old + 1)) }
     ensures seats { IfSome result (λ _. IsIdle ring.now first.new × IsIdle ring.now second.new) }
 {
     let number = lead.published();

@@ -1,12 +1,12 @@
 -- The merged slices, and what holds once the moves are closed.
-use Rattle.std.proofs.Common.{◌≡◌, ℕ, zero, suc, ◌+◌, ◌<◌, Bool, true, false, cond, not, ◌&&◌, eqb, List, [], ◌∷◌, ◌++◌, length, set, drop, sym, refl, ap, ◌∙◌, subst, arith, ne_eqb}
+use Rattle.std.proofs.Common.{◌≡◌, ℕ, suc, ◌+◌, ◌<◌, Bool, true, false, cond, not, ◌&&◌, eqb, List, [], ◌∷◌, length, sym, refl, ap, ◌∙◌, arith, ne_eqb}
 use mathlib.Core.Logic.{dite}
 use native.Mathlib.Decide.{ℕ_discrete}
 use Rattle.std.specs.List.{range_with_len}
 use Rattle.weave_core.specs.declared.moves.Move.{Move}
 use Rattle.weave_core.specs.declared.moves.Move.TheVariants.{Publish, Claim, Finish, Merge, Close}
 use Rattle.weave_core.specs.Moves.{WeaveState, empty, published, is_allowed, after, state_after, AllAllowed}
-use Rattle.weave_core.specs.Events.{Event, is_merged, event_of, events_of, merged_slices}
+use Rattle.weave_core.specs.Events.{events_of, merged_slices}
 
 merges : (ms : List Move) (s : WeaveState) → (k : ℕ) × (merged_slices (events_of s ms) ≡ range_with_len s.merged k) × ((state_after s ms).merged ≡ s.merged + k)
 merges [] s = (0, refl, (let e : s.merged ≡ s.merged + 0 = omega arith in e))

@@ -5,8 +5,8 @@ ghost use Rattle.weave_core.specs.declared.moves.Move.{Move};
 ghost use Rattle.weave_core.specs.Moves.{WeaveState, empty, published, is_allowed, state_after, AllAllowed};
 ghost use Rattle.weave_core.specs.Events.{course, events_of, of_slice, merged_slices, StandsAt};
 
-/// Over every list of allowed moves, each slice is published, claimed, finished by who claimed it, and merged, each at most
-/// once and in this order; and its phase says how far it is.
+/// Over every list of allowed moves, each slice is published, claimed, finished by who claimed it, and merged, each
+/// at most once and in this order; and its phase says how far it is.
 pub fn each_slice_in_order()
     ensures order { (limit : ℕ) (moves : List Move) (n : ℕ) → AllAllowed (empty limit) moves
         → (who : ℕ) × (k : ℕ) × (of_slice n (events_of (empty limit) moves) ≡ take k (course who)) }

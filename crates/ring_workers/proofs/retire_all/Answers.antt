@@ -1,6 +1,6 @@
-use Rattle.std.proofs.Common.{rules, ◌≡◌, ◌+◌, ◌<◌, All, length, ℕ, ◌∷◌, ◌++◌, [], arith, ap, ◌∙◌, length-append}
+use Rattle.std.proofs.Common.{◌≡◌, ◌+◌, length, ℕ, ◌∷◌, ◌++◌, [], arith, ap, ◌∙◌, length-append}
 use Rattle.std.proofs.lemmas.List.Elements.{All-tail}
-use Rattle.slice_ring.specs.Seats.{with_view, IsOf, IsIdle}
+use Rattle.slice_ring.specs.Seats.{with_view, IsIdle}
 use Rattle.slice_ring.specs.Steps.{takes_back}
 use Rattle.ring_workers.proofs.retire_all.Goals as goal
 

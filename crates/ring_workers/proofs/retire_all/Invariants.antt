@@ -1,4 +1,4 @@
-use Rattle.std.proofs.Common.{◌≡◌, ℕ, ◌+◌, All, length}
+use Rattle.std.proofs.Common.{◌≡◌, ◌+◌, All, length}
 use Rattle.std.specs.Vec.Iter.{into_iter_items}
 use Rattle.slice_ring.specs.Seats.{IsOf, IsIdle}
 use Rattle.ring_workers.specs.Answers.{IsSameBut}

@@ -1,4 +1,4 @@
-use Rattle.std.proofs.Common.{◌≡◌, ℕ, ◌<◌, ◌≤◌, Some, None}
+use Rattle.std.proofs.Common.{◌≡◌, ℕ, ◌<◌, ◌≤◌, None}
 use Rattle.slice_ring.specs.Seats.{IsSame, IsWorking, WasMissed}
 use Rattle.slice_ring.specs.Steps.{look_at}
 use Rattle.slice_ring.proofs.table.SlotTable.claim.Given as goal

@@ -1,4 +1,4 @@
-use Rattle.std.proofs.Common.{rules, ap, sym, ◌∙◌, ◌≡◌, ℕ, ◌+◌, ◌-◌, ◌*◌, ◌%◌, ◌++◌, ◌∷◌, [], length, Some, None}
+use Rattle.std.proofs.Common.{rules, ap, sym, ◌∙◌, ◌+◌, ◌-◌, ◌%◌, ◌++◌, ◌∷◌, [], length, Some, None}
 use Rattle.slice_ring.specs.declared.views.Content.TheVariants.{Piece}
 use Rattle.atomic_table.specs.Table.{rest, turned}
 use Rattle.slice_ring.specs.Seats.{turns}

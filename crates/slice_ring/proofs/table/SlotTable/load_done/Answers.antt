@@ -1,4 +1,4 @@
-use Rattle.std.proofs.Common.{rules, refl, ap, sym, ◌∙◌, ◌≡◌, ℕ, ◌+◌, ◌*◌, ◌%◌}
+use Rattle.std.proofs.Common.{rules, refl, ap, sym, ◌∙◌, ℕ, ◌+◌, ◌*◌, ◌%◌}
 use Rattle.slice_ring.proofs.Leads.{collect_allowed}
 use Rattle.slice_ring.proofs.table.SlotTable.load_done.Goals as goal
 

@@ -1,4 +1,3 @@
-use Rattle.std.proofs.Common.{◌≡◌, ℕ}
 use Rattle.slice_ring.specs.Seats.{IsSame, IsOpening}
 use Rattle.slice_ring.proofs.table.SlotTable.open_slots.Given as goal
 

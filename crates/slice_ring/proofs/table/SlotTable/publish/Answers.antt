@@ -1,4 +1,4 @@
-use Rattle.std.proofs.Common.{rules, arith, ap, sym, ◌∙◌, ◌≡◌, ℕ, ◌+◌, ◌-◌, ◌++◌, ◌∷◌, [], length, length-append, Some}
+use Rattle.std.proofs.Common.{ap, sym, ◌∙◌, ◌≡◌, ◌+◌, ◌-◌, ◌++◌, ◌∷◌, [], length, length-append, Some}
 use Rattle.atomic_table.specs.Table.{rest}
 use Rattle.slice_ring.specs.Seats.{turns}
 use Rattle.slice_ring.specs.Steps.{publishes}

@@ -1,4 +1,4 @@
-use Rattle.std.proofs.Common.{rules, ap, subst, sym, ◌∙◌, ◌≡◌, ℕ, ◌+◌, ◌*◌, ◌%◌, ◌∷◌, Some}
+use Rattle.std.proofs.Common.{rules, ap, sym, ◌∙◌, ℕ, ◌+◌, ◌*◌, ◌%◌, ◌∷◌, Some}
 use Rattle.slice_ring.specs.declared.views.Content.TheVariants.{Piece}
 use Rattle.atomic_table.specs.Table.{rest}
 use Rattle.slice_ring.proofs.Workers.{finishes_allowed}

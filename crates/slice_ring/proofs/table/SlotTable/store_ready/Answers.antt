@@ -1,4 +1,4 @@
-use Rattle.std.proofs.Common.{rules, ap, subst, sym, ◌∙◌, ◌≡◌, ℕ, ◌+◌, ◌*◌, ◌%◌, ◌<◌, ◌∷◌, length, Some}
+use Rattle.std.proofs.Common.{rules, ap, subst, sym, ◌∙◌, ℕ, ◌+◌, ◌*◌, ◌%◌, ◌<◌, ◌∷◌, length, Some}
 use Rattle.slice_ring.specs.declared.views.Content.TheVariants.{Job}
 use Rattle.atomic_table.specs.Table.{rest}
 use Rattle.slice_ring.proofs.Leads.{publish_allowed}
