@@ -3,7 +3,7 @@
 #![tactic(auto)]
 
 #[cfg(test)]
-mod core;
+mod moves;
 #[cfg(test)]
 mod squares;
 #[cfg(test)]
