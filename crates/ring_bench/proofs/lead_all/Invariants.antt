@@ -1,0 +1,6 @@
+use Rattle.std.proofs.Common.{◌≡◌, ◌≤◌}
+use Rattle.slice_ring.specs.Seats.{IsOf, IsOpen, IsIdle, published_by, merged_by}
+use Rattle.ring_bench.proofs.lead_all.Given as goal
+
+abbrev pub invariant-loop-turn : goal.invariant-loop-turn
+invariant-loop-turn g l = IsOf l.fn.ring l.lead × IsOpen l.lead × IsIdle l.fn.ring l.mine × (merged_by l.lead ≤ published_by l.lead) × (published_by l.lead ≤ l.jobs)
