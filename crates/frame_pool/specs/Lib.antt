@@ -1,0 +1,4 @@
+pub mod Bytes
+pub mod Kept
+pub mod PoolState
+pub mod Spare
