@@ -1,0 +1,11 @@
+pub mod Agree
+pub mod Flat
+pub mod Fresh
+pub mod Laid
+pub mod MarkLists
+pub mod Placed
+pub mod Put
+pub mod Readings
+pub mod Rules
+pub mod SlotMarks
+pub mod Tables

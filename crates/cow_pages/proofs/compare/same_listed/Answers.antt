@@ -1,0 +1,22 @@
+use Rattle.std.proofs.Common.{◌≡◌, ◌+◌, ◌*◌, ◌/◌, ◌<◌, sym, refl, length, get_or, arith}
+use Rattle.std.proofs.lemmas.Bool.{true≢false}
+use Rattle.std.proofs.lemmas.Grind.{common_steps}
+use Rattle.cow_pages.specs.Laid.{byte_in, table_byte}
+use Rattle.cow_pages.proofs.Agree.{named-at, named-where}
+use Rattle.cow_pages.proofs.compare.same_listed.Goals as goal
+
+pub returns-then-not-same_page : goal.returns-then-not-same_page
+returns-then-not-same_page c =
+    let here : get_or c.args.pages.now.items c.loop-k.k 0 ≡ c.index-page.result.now = grind (arith, common_steps) in
+    let inside : c.loop-k.k < length c.args.pages.now.items = grind (arith, common_steps) in (
+      λ f. absurd (true≢false (sym f)),
+      λ h. c.if-not-same_page.ensures.1 (λ i lt. h (4096 * c.index-page.result.now + i) (omega (arith, c.if-page-lt-PAGES.true))
+          (named-at c.args.pages.now.items c.loop-k.k ((4096 * c.index-page.result.now + i) / 4096) inside (omega (arith, here, lt)))),
+    )
+
+pub returns : goal.returns
+returns c = (
+  λ _ a lt named. named-where c.args.pages.now.items (a / 4096) (byte_in c.args.slots.now c.args.pool.now.bytes c.args.table.now a ≡ table_byte c.args.end.now a)
+      (λ j less e. c.loop-k.invariant j (omega (arith, less, c.loop-k-test.false, c.len-k-end.ensures)) a lt (sym e)) named,
+  λ _. refl,
+)

@@ -1,0 +1,6 @@
+pub mod Contents
+pub mod Frames
+pub mod Kept
+pub mod Laid
+pub mod Marks
+pub mod Named
