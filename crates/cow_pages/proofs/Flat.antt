@@ -1,10 +1,10 @@
 -- The flat list is read, written and compared at each address.
-use Rattle.std.proofs.Common.{zero, suc, replicate, false, ◌≡◌, ℕ, ◌<◌, ◌^◌, ◌==◌, cond, refl, sym, ◌∙◌, length, get_or, map, arith, get_or-set_same, get_or-set_other}
+use Rattle.std.proofs.Common.{zero, suc, replicate, false, ◌≡◌, ℕ, ◌<◌, ◌^◌, ◌==◌, cond, refl, sym, ◌∙◌, length, get_or, map, arith, get_or-set_same, get_or-set_other, inl, inr}
 use Rattle.std.specs.List.{range_with_len}
 use Rattle.std.proofs.Math.ListN.{set, length-set}
 use Rattle.std.proofs.lemmas.List.FromFn.{get_or-map-range_with_len, length-map-range_with_len, fill_by_all}
-use Rattle.std.proofs.lemmas.List.{length-replicate}
-use Rattle.std.proofs.lemmas.Bool.{cases_eq}
+use Rattle.std.proofs.lemmas.List.{get_or_past, length-replicate}
+use Rattle.std.proofs.lemmas.Bool.{cases_eq, cases_lt}
 use Rattle.std.proofs.lemmas.Bool.Decides.{nat_tests}
 use Rattle.cow_pages.specs.Contents.{flat}
 use Rattle.cow_pages.specs.Marks.{unmarked}
@@ -51,3 +51,10 @@ length-unmarked n = length-replicate n false
 pub get_or-unmarked : (n k : ℕ) → get_or (unmarked n) k false ≡ false
 unfolding unmarked
 get_or-unmarked n k = replicated n k
+
+-- pages that were never written
+pub get_or-zeros : (a : ℕ) → get_or (flat (λ _. 0)) a 0 ≡ 0
+get_or-zeros a = elim (cases_lt a (2 ^ 32)) [
+  | inl lt ↦ get_or-flat (λ _. 0) a lt
+  | inr ge ↦ get_or_past (flat (λ _. 0)) a 0 (omega (arith, length-flat (λ _. 0)))
+]

@@ -9,10 +9,14 @@ abbrev pub shared_list : {X : Type 0} → Option (Arc (List X) Global) → List 
 shared_list None = []
 shared_list (Some p) = arc_value p
 
--- a table as contracts see it, in chunks of 1,024 pages
+-- a page of a branch of 128 leaves of 32 pages
+abbrev pub page_in : List (List (List ℕ)) → ℕ → List ℕ
+page_in branch i = slice_index_or (slice_index_or branch (i / 32) []) (i % 32) []
+
+-- a table as contracts see it, in branches of 4,096 pages
 abbrev pub Table : Type 0
-Table = List (List (List ℕ))
+Table = List (List (List (List ℕ)))
 
 -- the bytes of a page
 abbrev pub page_at : Table → ℕ → List ℕ
-page_at chunks page = slice_index_or (slice_index_or chunks (page / 1024) []) (page % 1024) []
+page_at table page = page_in (slice_index_or table (page / 4096) []) (page % 4096)

@@ -1,7 +1,8 @@
 //! A table of the pages of a 32-bit address space that is cheap to copy: its copies share their pages.
 #![tactic(auto)]
 
-mod chunk;
+mod branch;
+mod leaf;
 mod page;
 mod table;
 

@@ -1,22 +1,22 @@
-// A table of pages, in chunks.
-ghost use Rattle.std.specs.Prelude.{[], ◌≡◌, ℕ, ◌==◌, ◌^◌, ◌<◌, length, if◌then◌else◌, slice_index_or, IfOk, MatchOption, OnOk};
-ghost use Rattle.page_table.specs.Table.{page_at, shared_list};
+// A table of all pages, in branches.
+ghost use Rattle.std.specs.Prelude.{[], ◌≡◌, ℕ, ◌==◌, ◌^◌, ◌<◌, length, if◌then◌else◌, IfOk, MatchOption, OnOk};
+ghost use Rattle.page_table.specs.Table.{page_at, page_in, shared_list};
 
-use crate::chunk::Chunk;
+use crate::branch::Branch;
 use crate::page::PageBytes;
 use std::alloc::{AllocError, Global};
 use std::marker::Model;
 use std::mem;
 use std::sync::Arc;
 
-/// How many chunks there are.
-const CHUNKS: usize = 1024;
+/// How many branches there are.
+const BRANCHES: usize = 256;
 
-/// The pages of a whole address space. Copies share their chunks and pages. Contracts ask for a page by `page_at`, which gives
-/// the empty list where no page is in the table.
+/// The pages of a whole address space. Copies share their branches, leaves and pages, and one with a new page has one branch and
+/// one leaf of its own. Contracts ask for a page by `page_at`, which gives the empty list where no page is in the table.
 #[derive(Drop)]
 pub struct PageTable {
-    chunks: Vec<Option<Arc<Chunk, Global>>>,
+    branches: Vec<Option<Arc<Branch, Global>>>,
 }
 
 impl Model for PageTable {
@@ -25,9 +25,9 @@ impl Model for PageTable {
 
     ghost Value = { Table };
 
-    ghost view = { λ t. map shared_list t.chunks.items };
+    ghost view = { λ t. map shared_list t.branches.items };
 
-    ghost invariant = { λ t. length t.chunks.items ≡ 1024 };
+    ghost invariant = { λ t. length t.branches.items ≡ 256 };
 }
 
 impl PageTable {
@@ -35,11 +35,11 @@ impl PageTable {
     pub fn new(alloc: Global) -> Result<PageTable, AllocError>
         ensures { IfOk result (λ t. (page : ℕ) → page_at t page ≡ []) }
     {
-        let mut chunks = Vec::with_capacity(alloc, CHUNKS)?;
-        for _index in 0..CHUNKS {
-            chunks.push(None)?;
+        let mut branches = Vec::with_capacity(alloc, BRANCHES)?;
+        for _index in 0..BRANCHES {
+            branches.push(None)?;
         }
-        Ok(PageTable { chunks })
+        Ok(PageTable { branches })
     }
 
     /// A page, if it is in the table.
@@ -48,8 +48,8 @@ impl PageTable {
         requires { page < 2 ^ 20 }
         ensures { MatchOption result (page_at self.now page ≡ []) (λ p. page_at self.now page ≡ p.now) }
     {
-        match &self.chunks[(page / 1024) as usize] {
-            Some(chunk) => chunk.page((page % 1024) as usize),
+        match &self.branches[(page / 4096) as usize] {
+            Some(branch) => branch.page(page % 4096),
             None => None,
         }
     }
@@ -58,11 +58,11 @@ impl PageTable {
     pub fn try_clone(&self, alloc: Global) -> Result<PageTable, AllocError>
         ensures { IfOk result (λ t. t ≡ self.now) }
     {
-        let mut chunks = Vec::with_capacity(alloc, CHUNKS)?;
-        for chunk in &self.chunks {
-            chunks.push(shared_chunk(chunk)?)?;
+        let mut branches = Vec::with_capacity(alloc, BRANCHES)?;
+        for branch in &self.branches {
+            branches.push(shared_branch(branch)?)?;
         }
-        Ok(PageTable { chunks })
+        Ok(PageTable { branches })
     }
 
     /// Puts a page into the table, or takes one out. After an error some pages may be gone.
@@ -75,39 +75,35 @@ impl PageTable {
         requires { page < 2 ^ 20 }
         ensures { OnOk result ((q : ℕ) → page_at self.new q ≡ (if q == page then shared_list bytes else page_at self.old q)) }
     {
-        let place = (page / 1024) as usize;
-        let old = mem::replace(&mut self.chunks[place], None);
-        let mut chunk = private_chunk(alloc, old)?;
-        chunk.set((page % 1024) as usize, bytes);
-        self.chunks[place] = Some(Arc::new(alloc, chunk)?);
+        let place = (page / 4096) as usize;
+        let old = mem::replace(&mut self.branches[place], None);
+        let mut branch = private_branch(alloc, old)?;
+        branch.set(alloc, page % 4096, bytes)?;
+        self.branches[place] = Some(Arc::new(alloc, branch)?);
         Ok(())
     }
 }
 
-// A chunk of the same pages that no other table has.
-fn private_chunk(alloc: Global, chunk: Option<Arc<Chunk, Global>>) -> Result<Chunk, AllocError>
-    ensures same { IfOk result (λ c. (i : ℕ) → slice_index_or c i [] ≡ slice_index_or (shared_list chunk) i []) }
-    ensures len { IfOk result (λ c. length c ≡ 1024) }
+// A branch of the same pages that no other table has.
+fn private_branch(alloc: Global, branch: Option<Arc<Branch, Global>>) -> Result<Branch, AllocError>
+    ensures { IfOk result (λ b. (i : ℕ) → page_in b i ≡ page_in (shared_list branch) i) }
 {
-    match chunk {
-        None => Chunk::new(alloc),
-        Some(chunk) => match Arc::try_unwrap(chunk) {
-            Ok(chunk) => {
-                chunk.tell_len();
-                Ok(chunk)
-            }
-            Err(chunk) => chunk.try_clone(alloc),
+    match branch {
+        None => Branch::new(alloc),
+        Some(branch) => match Arc::try_unwrap(branch) {
+            Ok(branch) => Ok(branch),
+            Err(branch) => branch.try_clone(alloc),
         },
     }
 }
 
-fn shared_chunk(
-    chunk: &Option<Arc<Chunk, Global>>,
-) -> Result<Option<Arc<Chunk, Global>>, AllocError>
-    ensures { IfOk result (λ p. shared_list p ≡ shared_list chunk.now) }
+fn shared_branch(
+    branch: &Option<Arc<Branch, Global>>,
+) -> Result<Option<Arc<Branch, Global>>, AllocError>
+    ensures { IfOk result (λ p. shared_list p ≡ shared_list branch.now) }
 {
-    match chunk {
-        Some(chunk) => Ok(Some(Arc::try_clone(chunk)?)),
+    match branch {
+        Some(branch) => Ok(Some(Arc::try_clone(branch)?)),
         None => Ok(None),
     }
 }

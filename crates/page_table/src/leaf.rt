@@ -1,4 +1,4 @@
-// The pages of 1,024 neighbouring numbers.
+// The pages of 32 neighbouring numbers.
 ghost use Rattle.std.specs.Prelude.{[], ◌≡◌, ℕ, ◌<◌, length, slice_index_or, slice_set, IfOk, MatchOption};
 ghost use Rattle.page_table.specs.Table.{shared_list};
 
@@ -7,43 +7,43 @@ use std::alloc::{AllocError, Global};
 use std::marker::Model;
 use std::sync::Arc;
 
-/// How many pages a chunk has.
-const CHUNK: usize = 1024;
+/// How many pages a leaf has.
+const LEAF: usize = 32;
 
-/// 1,024 pages, shared with other chunks. A page that is not in it is the empty list.
+/// 32 pages, shared with other leaves. A page that is not in it is the empty list.
 #[derive(Drop)]
-pub(crate) struct Chunk {
+pub(crate) struct Leaf {
     pages: Vec<Option<Arc<PageBytes, Global>>>,
 }
 
-impl Model for Chunk {
+impl Model for Leaf {
     ghost use Rattle.std.specs.Prelude.{ℕ, ◌≡◌, List, length, map};
 
     ghost Value = { List (List ℕ) };
 
     ghost use Rattle.page_table.specs.Table.{shared_list};
 
-    ghost view = { λ c. map shared_list c.pages.items };
+    ghost view = { λ l. map shared_list l.pages.items };
 
-    ghost invariant = { λ c. length c.pages.items ≡ 1024 };
+    ghost invariant = { λ l. length l.pages.items ≡ 32 };
 }
 
-impl Chunk {
+impl Leaf {
     /// No page is in it.
-    pub(crate) fn new(alloc: Global) -> Result<Chunk, AllocError>
-        ensures pages { IfOk result (λ c. (page : ℕ) → slice_index_or c page [] ≡ []) }
-        ensures len { IfOk result (λ c. length c ≡ 1024) }
+    pub(crate) fn new(alloc: Global) -> Result<Leaf, AllocError>
+        ensures pages { IfOk result (λ l. (page : ℕ) → slice_index_or l page [] ≡ []) }
+        ensures len { IfOk result (λ l. length l ≡ 32) }
     {
-        let mut pages = Vec::with_capacity(alloc, CHUNK)?;
-        for _index in 0..CHUNK {
+        let mut pages = Vec::with_capacity(alloc, LEAF)?;
+        for _index in 0..LEAF {
             pages.push(None)?;
         }
-        Ok(Chunk { pages })
+        Ok(Leaf { pages })
     }
 
-    /// It has 1,024 pages. Tells a proof so.
+    /// It has 32 pages. Tells a proof so.
     pub(crate) fn tell_len(&self)
-        ensures { length self.now ≡ 1024 }
+        ensures { length self.now ≡ 32 }
     {
         let _pages = &self.pages;
     }
@@ -51,7 +51,7 @@ impl Chunk {
     /// A page, if it is in it.
     #[inline(always)]
     pub(crate) fn page(&self, index: usize) -> Option<&PageBytes>
-        requires { index < 1024 }
+        requires { index < 32 }
         ensures { MatchOption result (slice_index_or self.now index [] ≡ []) (λ p. slice_index_or self.now index [] ≡ p.now) }
     {
         match &self.pages[index] {
@@ -60,21 +60,21 @@ impl Chunk {
         }
     }
 
-    /// A chunk of the same pages.
-    pub(crate) fn try_clone(&self, alloc: Global) -> Result<Chunk, AllocError>
-        ensures same { IfOk result (λ c. c ≡ self.now) }
-        ensures len { IfOk result (λ c. length c ≡ 1024) }
+    /// A leaf of the same pages.
+    pub(crate) fn try_clone(&self, alloc: Global) -> Result<Leaf, AllocError>
+        ensures same { IfOk result (λ l. l ≡ self.now) }
+        ensures len { IfOk result (λ l. length l ≡ 32) }
     {
-        let mut pages = Vec::with_capacity(alloc, CHUNK)?;
+        let mut pages = Vec::with_capacity(alloc, LEAF)?;
         for page in &self.pages {
             pages.push(shared(page)?)?;
         }
-        Ok(Chunk { pages })
+        Ok(Leaf { pages })
     }
 
     /// Puts a page into it, or takes one out.
     pub(crate) fn set(&mut self, index: usize, page: Option<Arc<PageBytes, Global>>)
-        requires { index < 1024 }
+        requires { index < 32 }
         ensures { self.new ≡ slice_set self.old index (shared_list page) }
     {
         self.pages[index] = page;
