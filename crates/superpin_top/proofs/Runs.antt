@@ -138,7 +138,7 @@ ends_run t now new m next r count steps before end has lt is gives =
       q,
       after-last step_of steps r.budget (Running r.start) q q (end_by end) lt before.stands gives.0,
       counted_more r.image (trace_of steps r.start) count q m has before.machine_is before.counted stands
-      ∙ ap (count_of r.image) (sym (along-last step_of item_at steps r.budget (Running r.start) q q (end_by end) lt before.stands gives.0)),
+          ∙ ap (count_of r.image) (sym (along-last step_of item_at steps r.budget (Running r.start) q q (end_by end) lt before.stands gives.0)),
       gives.2 ∙ ap (told_after t q.world) (sym (along-last step_of sent_at steps r.budget (Running r.start) q q (end_by end) lt before.stands gives.0)),
     )
 

@@ -108,7 +108,7 @@ pub(crate) fn execute<H: Host>(
     requires frames { MOST_PAGES ≤ guest.old.frames.count }
     ensures told { (t : Told) (w : World) → H.told host.old ≡ told_after t w [] →
         RunGives t (record { image = image.now; start = start_of guest.old.machine w; budget = budget })
-            result (H.told host.new) }
+        result (H.told host.new) }
     ensures faults { MatchResult result (λ _. H.faults host.new ≡ H.faults host.old)
         (λ e. CausedBy (refusal_of_run e) (H.faults host.old) (H.faults host.new)) }
 {

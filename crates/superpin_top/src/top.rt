@@ -78,8 +78,8 @@ fn read_program<H: Host>(alloc: Global, host: &mut H, name: &str) -> Result<Vec<
 fn start(alloc: Global, file: &[u8], strings: &[String]) -> Result<Loaded, Refusal>
     ensures loaded { (budget : ℕ) →
         LoadGives (program_of_tested (refusal_of file.now) file.now
-            (record { budget = budget; strings = texts strings.now }))
-            (texts strings.now) budget result }
+        (record { budget = budget; strings = texts strings.now }))
+        (texts strings.now) budget result }
     ensures frames { IfOk result (λ loaded. MOST_PAGES ≤ loaded.guest.frames.count) }
     ensures cause { IfErr result (λ e. cause_of e ≡ None) }
     ensures built { IfErr result IsBuilt }
@@ -102,8 +102,8 @@ fn ready<H: Host>(alloc: Global, strings: &[String], host: &mut H) -> Result<Loa
     ensures told { H.told host.new ≡ H.told host.old }
     ensures loaded { (budget : ℕ) → WhereTold (H.told host.old).files (λ files.
         LoadGives (program_of_file (file_of files (name_of (texts strings.now)))
-            (record { budget = budget; strings = texts strings.now }))
-            (texts strings.now) budget result) }
+        (record { budget = budget; strings = texts strings.now }))
+        (texts strings.now) budget result) }
     ensures frames { IfOk result (λ loaded. MOST_PAGES ≤ loaded.guest.frames.count) }
     ensures faults { MatchResult result (λ _. H.faults host.new ≡ H.faults host.old)
         (λ e. CausedBy e (H.faults host.old) (H.faults host.new)) }
@@ -127,7 +127,7 @@ fn run_loaded<H: Host>(
     ensures told { (t : Told) (w : World) (strings : List (List ℕ)) → H.told host.old ≡ told_after t w [] →
         loaded.guest.machine ≡ machine_of loaded.image strings →
         AttemptGives t (Ok (record { image = loaded.image; strings = strings; budget = budget })) w
-            result (H.told host.new) }
+        result (H.told host.new) }
     ensures faults { MatchResult result (λ _. H.faults host.new ≡ H.faults host.old)
         (λ e. CausedBy e (H.faults host.old) (H.faults host.new)) }
     ensures late { IfErr result IsLate }
@@ -192,14 +192,14 @@ pub fn superpin<H: Host + Send, P: Pacer + Send>(
     ensures words { (asked (texts words.now) ≡ None) ↔ (result ≡ Answer.Refused Refusal.NotBuilt) }
     ensures file_fault { (H.faults host.old).file < 2 ^ 64 - 1 →
         ((result ≡ Answer.Refused Refusal.FileFault) ↔
-            ((H.faults host.old).file < (H.faults host.new).file)) }
+        ((H.faults host.old).file < (H.faults host.new).file)) }
     ensures input_fault { (H.faults host.old).input < 2 ^ 64 - 1 →
         ((result ≡ Answer.Refused Refusal.InputFault) ↔
-            ((H.faults host.old).input < (H.faults host.new).input)) }
+        ((H.faults host.old).input < (H.faults host.new).input)) }
     ensures output_fault { (port : Port) → port ≢ Port.Report →
         count_of (To port) (H.faults host.old) < 2 ^ 64 - 1 →
         ((result ≡ Answer.Refused (Refusal.OutputFault port)) ↔
-            (count_of (To port) (H.faults host.old) < count_of (To port) (H.faults host.new))) }
+        (count_of (To port) (H.faults host.old) < count_of (To port) (H.faults host.new))) }
     ensures report_fault { (H.faults host.old).report < 2 ^ 64 - 1 →
         result ≡ Answer.Refused Refusal.ReportFault →
         (H.faults host.old).report < (H.faults host.new).report }
