@@ -1,6 +1,7 @@
 // The headers and symbols of an ELF file of 32 bits, little-endian.
 ghost use Rattle.std.specs.Prelude.{◌≡◌, ◌≤◌, ◌+◌, length};
-ghost use Rattle.elf_load.specs.Header.{half, word, file_header, program_header_at, section_header_at, symbol_at};
+ghost use Rattle.elf_load.specs.Header.{half, word, file_header, program_header_at};
+ghost use Rattle.elf_load.specs.Header.{section_header_at, symbol_at};
 
 use byteorder::{ByteOrder, LittleEndian};
 

@@ -3,7 +3,9 @@ ghost use Rattle.std.specs.Prelude.{◌≡◌, true, false, length, map, IfOk};
 ghost use Rattle.std.specs.Arc.{arc_value};
 ghost use Rattle.std.specs.List.{filter_map};
 ghost use Rattle.elf_load.specs.Header.{file_header};
-ghost use Rattle.elf_load.specs.Symbols.{section_ends_past_file, symbols, names, by_address, function_entry, function_named, is_bad_table, table_functions, symbol_table, are_bad_symbols, functions};
+ghost use Rattle.elf_load.specs.Symbols.{section_ends_past_file, symbols, names, by_address};
+ghost use Rattle.elf_load.specs.Symbols.{function_entry, function_named, is_bad_table};
+ghost use Rattle.elf_load.specs.Symbols.{table_functions, symbol_table, are_bad_symbols, functions};
 ghost use Rattle.elf_load.specs.Tests.{has_tables};
 
 use crate::fields::{FileHeader, ProgramHeader, SectionHeader, symbol_at};
@@ -15,8 +17,8 @@ use std::alloc::{AllocError, Global};
 use std::collections::BTreeMap;
 use std::sync::Arc;
 
-// The address of each function in use in code and the offset of its name, in order of address. The table is
-// read from its end, so that the first of several at one address stays.
+// The address of each function in use in code and the offset of its name, in order of address. The
+// table is read from its end, so that the first of several at one address stays.
 fn entries(
     alloc: Global,
     file: &[u8],
@@ -24,7 +26,9 @@ fn entries(
     headers: &[ProgramHeader],
 ) -> Result<BTreeMap<u32, u32>, AllocError>
     requires { section_ends_past_file (length file.now) table.now ≡ false }
-    ensures { IfOk result (λ entries. entries.entries ≡ by_address (filter_map (function_entry headers.now) (symbols file.now table.now))) }
+    ensures { IfOk result
+        (λ entries. entries.entries
+        ≡ by_address (filter_map (function_entry headers.now) (symbols file.now table.now))) }
 {
     let mut entries = BTreeMap::new(alloc);
     let mut k = table.size as usize / SYMBOL;
@@ -93,15 +97,16 @@ fn table_functions(
     requires header { header.now ≡ file_header file.now }
     requires tables { has_tables header.now (length file.now) ≡ true }
     requires good { is_bad_table file.now table.now ≡ false }
-    ensures { IfOk result (λ functions. functions.items ≡ table_functions file.now headers.now table.now) }
+    ensures { IfOk result
+        (λ functions. functions.items ≡ table_functions file.now headers.now table.now) }
 {
     let entries = pairs(alloc, entries(alloc, file, table, headers)?)?;
     let names = shared(alloc, names(file, header, table))?;
     named(alloc, &names, &entries)
 }
 
-/// The functions in use in code that the file's symbol table names, in order of address; none if it has no
-/// symbol table. The table is not bad.
+/// The functions in use in code that the file's symbol table names, in order of address; none if it
+/// has no symbol table. The table is not bad.
 #[tactic(auto, unfolding(crate::specs::Symbols::functions))]
 pub fn functions(
     alloc: Global,

@@ -1,7 +1,8 @@
 // The tests of the file header.
 ghost use Rattle.std.specs.Prelude.{◌≡◌, ◌≤◌, true, length, IfNone};
 ghost use Rattle.elf_load.specs.Limits.{most_headers};
-ghost use Rattle.elf_load.specs.Tests.{first_fault, identification_tests, header_tests, has_unsupported_flags, has_header_sizes, has_tables};
+ghost use Rattle.elf_load.specs.Tests.{first_fault, identification_tests, header_tests};
+ghost use Rattle.elf_load.specs.Tests.{has_unsupported_flags, has_header_sizes, has_tables};
 
 use crate::fault::ElfFault;
 use crate::fields::FileHeader;

@@ -1,5 +1,6 @@
 // The whole loader.
-ghost use Rattle.std.specs.Prelude.{◌≡◌, ◌≤◌, ◌⊎◌, true, false, None, Some, length, IfOk, MatchResult};
+ghost use Rattle.std.specs.Prelude.{◌≡◌, ◌≤◌, ◌⊎◌, true, false, None, Some, length, IfOk};
+ghost use Rattle.std.specs.Prelude.{MatchResult};
 ghost use Rattle.elf_load.specs.Elf.{refusal_of, image_of};
 ghost use Rattle.elf_load.specs.Header.{file_header, program_headers};
 ghost use Rattle.elf_load.specs.Limits.{most_headers};
@@ -31,7 +32,8 @@ fn image(
     requires table { table ≡ symbol_table file.now }
     requires few { header.now.program_header_count ≤ most_headers }
     requires tables { has_tables header.now (length file.now) ≡ true }
-    requires passed { None ≡ first_fault (segment_tests (length file.now) header.now.entry headers.now) }
+    requires passed { None
+        ≡ first_fault (segment_tests (length file.now) header.now.entry headers.now) }
     requires good { are_bad_symbols file.now ≡ false }
     ensures { IfOk result (λ image. image ≡ image_of file.now) }
 {
@@ -48,8 +50,8 @@ fn image(
 /// The image of a static executable for RISC-V in an ELF file of 32 bits.
 ///
 /// # Errors
-/// The first test of [`ElfFault`], in its order, that the file fails. The tests take no memory: `NoMemory`
-/// comes where the file passes them all and there is none for the image.
+/// The first test of [`ElfFault`], in its order, that the file fails. The tests take no memory:
+/// `NoMemory` comes where the file passes them all and there is none for the image.
 pub fn load(alloc: Global, file: &[u8]) -> Result<Image, ElfFault>
     ensures { MatchResult result
         (λ image. (refusal_of file.now ≡ None) × (image ≡ image_of file.now))

@@ -2,7 +2,11 @@
 ghost use Rattle.std.specs.Prelude.{◌≡◌, ◌&&◌, true, ◌≤◌, ◌<◌, ◌^◌, length, ◌+◌, IfSome};
 ghost use Rattle.std.specs.List.{list_any};
 ghost use Rattle.elf_load.specs.Limits.{most_headers};
-ghost use Rattle.elf_load.specs.Tests.{first_fault, segment_tests, is_dynamic, is_segment, can_execute, can_write, ends_past_file, is_malformed, have_page_in_common, shares_page, is_outside_user, first_segment, first_sharing, are_too_many_pages, holds, is_code, is_entry, first_page, last_page, page_count};
+ghost use Rattle.elf_load.specs.Tests.{first_fault, segment_tests, is_dynamic, is_segment};
+ghost use Rattle.elf_load.specs.Tests.{can_execute, can_write, ends_past_file, is_malformed};
+ghost use Rattle.elf_load.specs.Tests.{have_page_in_common, shares_page, is_outside_user};
+ghost use Rattle.elf_load.specs.Tests.{first_segment, first_sharing, are_too_many_pages, holds};
+ghost use Rattle.elf_load.specs.Tests.{is_code, is_entry, first_page, last_page, page_count};
 
 use crate::fault::ElfFault;
 use crate::fields::ProgramHeader;
@@ -19,7 +23,8 @@ const USER_START: u64 = 0x1000;
 
 const USER_END: u64 = 0x4000_0000;
 
-// Whether the program header asks for an interpreter or for dynamic linking: PT_INTERP or PT_DYNAMIC.
+// Whether the program header asks for an interpreter or for dynamic linking: PT_INTERP or
+// PT_DYNAMIC.
 fn is_dynamic(header: &ProgramHeader) -> bool
     ensures { result ≡ is_dynamic header.now }
 {
@@ -61,7 +66,8 @@ fn ends_past_file(size: usize, header: &ProgramHeader) -> bool
     size < header.offset as usize + header.file_size as usize
 }
 
-// Whether the segment has more bytes in the file than in memory, or an alignment that it does not keep.
+// Whether the segment has more bytes in the file than in memory, or an alignment that it does not
+// keep.
 fn is_malformed(header: &ProgramHeader) -> bool
     ensures { result ≡ is_malformed header.now }
 {
@@ -149,7 +155,8 @@ fn first_sharing(headers: &[ProgramHeader]) -> Option<usize>
 // The first segment that can be written and executed.
 #[tactic(auto, unfolding(crate::specs::Tests::first_segment))]
 fn first_writable_code(headers: &[ProgramHeader]) -> Option<usize>
-    ensures first { result ≡ first_segment (λ header. can_write header && can_execute header) headers.now }
+    ensures first { result ≡ first_segment
+        (λ header. can_write header && can_execute header) headers.now }
     ensures below { IfSome result (λ k. k < length headers.now) }
 {
     headers.iter().position(|header| is_segment(header)

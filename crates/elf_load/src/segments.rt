@@ -85,7 +85,8 @@ fn holds_table(header: &FileHeader, segment: &ProgramHeader) -> bool
 /// The address of the program header table in the first segment that holds it, or 0.
 #[tactic(auto, unfolding(crate::specs::Elf::table_address))]
 pub fn table_address(header: &FileHeader, headers: &[ProgramHeader]) -> u32
-    requires { All (λ segment. is_segment segment ≡ true → segment.address + segment.file_size ≤ 2 ^ 30) headers.now }
+    requires { All (λ segment. is_segment segment ≡ true
+        → segment.address + segment.file_size ≤ 2 ^ 30) headers.now }
     ensures { result ≡ table_address header.now headers.now }
 {
     for segment in headers {

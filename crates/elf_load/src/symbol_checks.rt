@@ -2,7 +2,10 @@
 ghost use Rattle.std.specs.Prelude.{◌≡◌, ℕ, ◌==◌, nat_lt, true, false, length, drop};
 ghost use Rattle.std.specs.List.{list_any};
 ghost use Rattle.elf_load.specs.Header.{file_header, section};
-ghost use Rattle.elf_load.specs.Symbols.{section_ends_past_file, section_bytes, symbols, is_function, is_unnamed, is_malformed_table, are_malformed_names, is_bad_table, symbol_table, are_bad_symbols};
+ghost use Rattle.elf_load.specs.Symbols.{section_ends_past_file, section_bytes, symbols};
+ghost use Rattle.elf_load.specs.Symbols.{is_function, is_unnamed, is_malformed_table};
+ghost use Rattle.elf_load.specs.Symbols.{are_malformed_names, is_bad_table, symbol_table};
+ghost use Rattle.elf_load.specs.Symbols.{are_bad_symbols};
 ghost use Rattle.elf_load.specs.Tests.{has_tables};
 
 use crate::fields::{FileHeader, SectionHeader, Symbol, symbol_at};
@@ -40,7 +43,8 @@ pub fn is_function(symbol: &Symbol) -> bool
     symbol.kind == FUNCTION && symbol.section != 0
 }
 
-// Whether the table is no whole number of symbols, or ends past the file, or is linked to no section.
+// Whether the table is no whole number of symbols, or ends past the file, or is linked to no
+// section.
 fn is_malformed_table(file: &[u8], header: &FileHeader, table: &SectionHeader) -> bool
     requires { header.now ≡ file_header file.now }
     ensures { result ≡ is_malformed_table file.now table.now }
@@ -58,7 +62,8 @@ fn are_malformed_names(file: &[u8], strings: &SectionHeader) -> bool
     strings.kind != STRING_TABLE || section_ends_past_file(file.len(), strings)
 }
 
-// The place behind the last zero byte, or 0 if there is none: a name that begins before it has an end.
+// The place behind the last zero byte, or 0 if there is none: a name that begins before it has an
+// end.
 fn names_end(names: &[u8]) -> usize
     ensures { (at : ℕ) → list_any (λ byte. byte == 0) (drop at names.now) ≡ nat_lt at result }
 {

@@ -1,5 +1,6 @@
 // The areas of a guest's memory, as a list.
-ghost use Rattle.std.specs.Prelude.{[], ◌∷◌, ◌++◌, ◌≡◌, true, false, MatchOption, ℕ, ◌+◌, ◌*◌, ◌/◌, ◌^◌, ◌<◌, ◌≤◌, length, slice_index_or, slice_set};
+ghost use Rattle.std.specs.Prelude.{[], ◌∷◌, ◌++◌, ◌≡◌, true, false, MatchOption, ℕ, ◌+◌, ◌*◌, ◌/◌};
+ghost use Rattle.std.specs.Prelude.{◌^◌, ◌<◌, ◌≤◌, length, slice_index_or, slice_set};
 ghost use Rattle.std.specs.List.{IsAfterLastMatch, position_or_len};
 ghost use Rattle.guest_model.specs.Added.{comes_before, mapped_pages};
 ghost use Rattle.guest_model.specs.Areas.{rounded_up};
@@ -44,7 +45,8 @@ pub(crate) fn place_of(areas: &[Area], area: &Area) -> usize
     areas.len()
 }
 
-/// The place behind the heap, the last of the areas that end at or below where maps start, or 0 where none does.
+/// The place behind the heap, the last of the areas that end at or below where maps start, or 0
+/// where none does.
 pub(crate) fn behind_heap(areas: &[Area]) -> usize
     ensures last { IsAfterLastMatch ends_low areas.now result }
     ensures within { result ≤ length areas.now }
@@ -61,7 +63,8 @@ pub(crate) fn behind_heap(areas: &[Area]) -> usize
 /// The areas that are left where a range is unmapped, if they are at most 64.
 #[tactic(auto, using(crate::proofs::Cut::cut_rules))]
 pub(crate) fn cut_areas(areas: &[Area], from: u32, to: u32) -> Option<ArrayVec<Area, MOST_AREAS>>
-    ensures { MatchOption result (MOST_AREAS < length (cut_areas from to areas.now)) (λ left. left.items ≡ cut_areas from to areas.now) }
+    ensures { MatchOption result (MOST_AREAS < length (cut_areas from to areas.now))
+        (λ left. left.items ≡ cut_areas from to areas.now) }
 {
     let mut left = ArrayVec::new();
     for area in areas {
@@ -75,7 +78,8 @@ pub(crate) fn cut_areas(areas: &[Area], from: u32, to: u32) -> Option<ArrayVec<A
 /// Appends what is left of an area on each side of the range, if there is room.
 fn push_parts(left: &mut ArrayVec<Area, MOST_AREAS>, area: &Area, from: u32, to: u32) -> bool
     ensures pushed { result ≡ true → left.new.items ≡ left.old.items ++ cut from to area.now }
-    ensures full { result ≡ false → MOST_AREAS < length left.old.items + length (cut from to area.now) }
+    ensures full { result ≡ false
+        → MOST_AREAS < length left.old.items + length (cut from to area.now) }
 {
     if area.start >= to || from >= area.end {
         return left.try_push(*area).is_ok();
@@ -92,7 +96,9 @@ fn push_parts(left: &mut ArrayVec<Area, MOST_AREAS>, area: &Area, from: u32, to:
 /// Ends the area at `place` at `end`.
 pub(crate) fn end_at(areas: &mut ArrayVec<Area, MOST_AREAS>, place: usize, end: u32)
     requires { place < length areas.old.items }
-    ensures { (d : Areas) → areas.new.items ≡ slice_set areas.old.items place (record (slice_index_or areas.old.items place d) { end = end }) }
+    ensures { (d : Areas)
+        → areas.new.items
+        ≡ slice_set areas.old.items place (record (slice_index_or areas.old.items place d) { end = end }) }
 {
     areas[place].end = end;
 }

@@ -1,5 +1,7 @@
 // Pages that are given back where a range is unmapped.
-ghost use Rattle.std.specs.Prelude.{[], ◌∷◌, ◌≡◌, ℕ, ◌+◌, ◌*◌, ◌/◌, ◌%◌, ◌^◌, ◌<◌, ◌≤◌, ◌&&◌, not, true, false, length, if◌then◌else◌, slice_index, slice_index_or};
+ghost use Rattle.std.specs.Prelude.{[], ◌∷◌, ◌≡◌, ℕ, ◌+◌, ◌*◌, ◌/◌, ◌%◌, ◌^◌, ◌<◌, ◌≤◌, ◌&&◌, not};
+ghost use Rattle.std.specs.Prelude.{true, false, length, if◌then◌else◌, slice_index};
+ghost use Rattle.std.specs.Prelude.{slice_index_or};
 ghost use Rattle.std.specs.List.{All};
 ghost use Rattle.guest_model.specs.Maps.{is_in_range};
 ghost use Rattle.page_store.specs.Contents.{count_marked};
@@ -24,15 +26,20 @@ pub(crate) fn clear_range(
     requires to { to % PAGE_SIZE ≡ 0 }
     requires bytes { length pages.old.flat_bytes ≡ 2 ^ 32 }
     requires table { length rights.old.items ≡ 2 ^ 20 }
-    ensures bytes { (q : ℕ) → slice_index pages.new.flat_bytes q ≡ (if is_cut from to areas.now q then 0 else slice_index pages.old.flat_bytes q) }
+    ensures bytes { (q : ℕ) → slice_index pages.new.flat_bytes q
+        ≡ (if is_cut from to areas.now q then 0 else slice_index pages.old.flat_bytes q) }
     ensures bytes_len { length pages.new.flat_bytes ≡ 2 ^ 32 }
-    ensures framed { (page : ℕ) → slice_index_or pages.new.framed page false ≡ (not (is_cut from to areas.now (PAGE_SIZE * page)) && slice_index_or pages.old.framed page false) }
+    ensures framed { (page : ℕ)
+        → slice_index_or pages.new.framed page false
+        ≡ (not (is_cut from to areas.now (PAGE_SIZE * page)) && slice_index_or pages.old.framed page false) }
     ensures framed_len { length pages.new.framed ≡ length pages.old.framed }
     ensures touched { pages.new.touched ≡ pages.old.touched }
     ensures frames { pages.new.frames ≡ pages.old.frames }
     ensures adds_up { count_marked pages.old.framed + pages.old.free ≡ pages.old.frames
         → count_marked pages.new.framed + pages.new.free ≡ pages.new.frames }
-    ensures rights { (page : ℕ) → slice_index_or rights.new.items page no_rights ≡ (if is_cut from to areas.now (PAGE_SIZE * page) then no_rights else slice_index_or rights.old.items page no_rights) }
+    ensures rights { (page : ℕ) → slice_index_or rights.new.items page no_rights
+        ≡ (if is_cut from to areas.now (PAGE_SIZE * page) then no_rights
+        else slice_index_or rights.old.items page no_rights) }
     ensures table_len { length rights.new.items ≡ 2 ^ 20 }
 {
     for area in areas {
@@ -47,15 +54,20 @@ fn clear_part(area: &Area, from: u32, to: u32, pages: &mut Pages, rights: &mut V
     requires to { to % PAGE_SIZE ≡ 0 }
     requires bytes { length pages.old.flat_bytes ≡ 2 ^ 32 }
     requires table { length rights.old.items ≡ 2 ^ 20 }
-    ensures bytes { (q : ℕ) → slice_index pages.new.flat_bytes q ≡ (if is_cut from to (area.now ∷ []) q then 0 else slice_index pages.old.flat_bytes q) }
+    ensures bytes { (q : ℕ) → slice_index pages.new.flat_bytes q
+        ≡ (if is_cut from to (area.now ∷ []) q then 0 else slice_index pages.old.flat_bytes q) }
     ensures bytes_len { length pages.new.flat_bytes ≡ 2 ^ 32 }
-    ensures framed { (page : ℕ) → slice_index_or pages.new.framed page false ≡ (not (is_cut from to (area.now ∷ []) (PAGE_SIZE * page)) && slice_index_or pages.old.framed page false) }
+    ensures framed { (page : ℕ)
+        → slice_index_or pages.new.framed page false
+        ≡ (not (is_cut from to (area.now ∷ []) (PAGE_SIZE * page)) && slice_index_or pages.old.framed page false) }
     ensures framed_len { length pages.new.framed ≡ length pages.old.framed }
     ensures touched { pages.new.touched ≡ pages.old.touched }
     ensures frames { pages.new.frames ≡ pages.old.frames }
     ensures adds_up { count_marked pages.old.framed + pages.old.free ≡ pages.old.frames
         → count_marked pages.new.framed + pages.new.free ≡ pages.new.frames }
-    ensures rights { (page : ℕ) → slice_index_or rights.new.items page no_rights ≡ (if is_cut from to (area.now ∷ []) (PAGE_SIZE * page) then no_rights else slice_index_or rights.old.items page no_rights) }
+    ensures rights { (page : ℕ) → slice_index_or rights.new.items page no_rights
+        ≡ (if is_cut from to (area.now ∷ []) (PAGE_SIZE * page) then no_rights
+        else slice_index_or rights.old.items page no_rights) }
     ensures table_len { length rights.new.items ≡ 2 ^ 20 }
 {
     let first = area.start.max(from) / PAGE_SIZE;
@@ -69,9 +81,12 @@ fn release_pages(pages: &mut Pages, from: u32, to: u32)
     requires order { from ≤ to }
     requires within { to ≤ 2 ^ 20 }
     requires bytes { length pages.old.flat_bytes ≡ 2 ^ 32 }
-    ensures bytes { (q : ℕ) → slice_index pages.new.flat_bytes q ≡ (if is_in_range from to (q / PAGE_SIZE) then 0 else slice_index pages.old.flat_bytes q) }
+    ensures bytes { (q : ℕ) → slice_index pages.new.flat_bytes q
+        ≡ (if is_in_range from to (q / PAGE_SIZE) then 0 else slice_index pages.old.flat_bytes q) }
     ensures bytes_len { length pages.new.flat_bytes ≡ 2 ^ 32 }
-    ensures framed { (page : ℕ) → slice_index_or pages.new.framed page false ≡ (not (is_in_range from to page) && slice_index_or pages.old.framed page false) }
+    ensures framed { (page : ℕ)
+        → slice_index_or pages.new.framed page false
+        ≡ (not (is_in_range from to page) && slice_index_or pages.old.framed page false) }
     ensures framed_len { length pages.new.framed ≡ length pages.old.framed }
     ensures touched { pages.new.touched ≡ pages.old.touched }
     ensures frames { pages.new.frames ≡ pages.old.frames }

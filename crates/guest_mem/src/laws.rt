@@ -8,7 +8,8 @@ ghost use Rattle.guest_mem.specs.Frames.{Frames, HasAllFrames, frames_for};
 
 /// Bytes that lie in `k` pages take at most `k` frames.
 pub fn frames_of_pages()
-    ensures { (framed : List Bool) (a n k : ℕ) → a % 4096 + n ≤ 4096 * k → frames_for framed a n ≤ k }
+    ensures { (framed : List Bool) (a n k : ℕ) → a % 4096 + n ≤ 4096 * k
+        → frames_for framed a n ≤ k }
 {}
 
 /// So `n` bytes take at most `(n + 8190) / 4096` frames, wherever they lie.

@@ -1,5 +1,6 @@
 // What may be done in each page.
-ghost use Rattle.std.specs.Prelude.{◌≡◌, ℕ, ◌*◌, ◌/◌, ◌^◌, ◌<◌, ◌≤◌, ◌&&◌, true, false, length, if◌then◌else◌, nat_le, nat_lt, slice_index_or, IfOk};
+ghost use Rattle.std.specs.Prelude.{◌≡◌, ℕ, ◌*◌, ◌/◌, ◌^◌, ◌<◌, ◌≤◌, ◌&&◌, true, false, length};
+ghost use Rattle.std.specs.Prelude.{if◌then◌else◌, nat_le, nat_lt, slice_index_or, IfOk};
 ghost use Rattle.guest_model.specs.Areas.{permits};
 ghost use Rattle.guest_model.specs.declared.Access.{Access as Accesses};
 ghost use Rattle.guest_mem.specs.Sound.{allows as allows_access, no_rights};
@@ -48,7 +49,8 @@ impl Rights {
 /// A table in which no page has a right.
 pub(crate) fn no_table(alloc: Global, pages: usize) -> Result<Vec<Rights>, AllocError>
     ensures len { IfOk result (λ v. length v.items ≡ pages) }
-    ensures none { IfOk result (λ v. (page : ℕ) → slice_index_or v.items page no_rights ≡ no_rights) }
+    ensures none { IfOk result (λ v. (page : ℕ)
+        → slice_index_or v.items page no_rights ≡ no_rights) }
 {
     vec![in alloc; NO_RIGHTS; pages]
 }
@@ -58,7 +60,9 @@ pub(crate) fn fill(table: &mut Vec<Rights>, from: u32, to: u32, rights: Rights)
     requires order { from ≤ to }
     requires within { to ≤ length table.old.items }
     ensures len { length table.new.items ≡ length table.old.items }
-    ensures rights { (page : ℕ) → slice_index_or table.new.items page no_rights ≡ (if nat_le from page && nat_lt page to then rights else slice_index_or table.old.items page no_rights) }
+    ensures rights { (page : ℕ) → slice_index_or table.new.items page no_rights
+        ≡ (if nat_le from page && nat_lt page to then rights
+        else slice_index_or table.old.items page no_rights) }
 {
     for page in from..to {
         table[page as usize] = rights;

@@ -1,10 +1,15 @@
 // A guest's memory.
-ghost use Rattle.std.specs.Prelude.{[], ◌∷◌, ◌++◌, ◌≡◌, ◌≢◌, ℕ, ◌+◌, ◌-◌, ◌*◌, ◌/◌, ◌%◌, ◌^◌, ◌<◌, ◌≤◌, ◌⊎◌, true, false, length, IfOk, MatchResult, OnOk, OnErr, Some, None};
-ghost use Rattle.guest_model.specs.Areas.{is_mapped, is_permitted, all_permitted, is_range_permitted, holds, wrap};
-ghost use Rattle.guest_model.specs.Bytes.{byte_at, bytes_at, put_bytes, number_of as number_of_bytes};
+ghost use Rattle.std.specs.Prelude.{[], ◌∷◌, ◌++◌, ◌≡◌, ◌≢◌, ℕ, ◌+◌, ◌-◌, ◌*◌, ◌/◌, ◌%◌, ◌^◌, ◌<◌};
+ghost use Rattle.std.specs.Prelude.{◌≤◌, ◌⊎◌, true, false, length, IfOk, MatchResult, OnOk, OnErr};
+ghost use Rattle.std.specs.Prelude.{Some, None};
+ghost use Rattle.guest_model.specs.Areas.{is_mapped, is_permitted, all_permitted};
+ghost use Rattle.guest_model.specs.Areas.{is_range_permitted, holds, wrap};
+ghost use Rattle.guest_model.specs.Bytes.{byte_at, bytes_at, put_bytes};
+ghost use Rattle.guest_model.specs.Bytes.{number_of as number_of_bytes};
 ghost use Rattle.guest_model.specs.Space.{HasBytesOfAreas, read_number, write_number, with_bytes};
 ghost use Rattle.guest_model.specs.Added.{empty_space, with_area, mapped_pages, area_size};
-ghost use Rattle.guest_model.specs.Maps.{grow_of, grown, growth, map_of, map_area, mapped, unmap_of, without_range, cut_areas};
+ghost use Rattle.guest_model.specs.Maps.{grow_of, grown, growth, map_of, map_area, mapped};
+ghost use Rattle.guest_model.specs.Maps.{unmap_of, without_range, cut_areas};
 ghost use Rattle.page_store.specs.Contents.{count_marked};
 ghost use Rattle.guest_model.specs.Range.{range};
 ghost use Rattle.guest_mem.specs.Frames.{HasAllFrames, TakesFrames, GivesFramesBack};
@@ -30,7 +35,8 @@ const PAGES: usize = 1_048_576;
 #[derive(Clone, Copy, PartialEq, Eq)]
 pub struct Denied;
 
-/// A guest's memory. Contracts see it as one flat map of bytes with its areas, and the frames of its pages.
+/// A guest's memory. Contracts see it as one flat map of bytes with its areas, and the frames of
+/// its pages.
 #[derive(Drop)]
 pub struct Space {
     areas: ArrayVec<Area, MOST_AREAS>,
@@ -140,18 +146,22 @@ impl Space {
         self.allows_range(Access::Read, at, len)
     }
 
-    /// Whether each of the `len` bytes from `at` on may be written. A range that passes 2^32 may not.
+    /// Whether each of the `len` bytes from `at` on may be written. A range that passes 2^32 may
+    /// not.
     pub fn writable(&self, at: u32, len: u32) -> bool
         ensures { result ≡ is_range_permitted Access.Write self.now.space.areas at len }
     {
         self.allows_range(Access::Write, at, len)
     }
 
-    /// The number of the `size` bytes from `at` on, modulo 2^32. Denied where one of them may not be read.
+    /// The number of the `size` bytes from `at` on, modulo 2^32. Denied where one of them may not
+    /// be read.
     #[inline(always)]
     pub fn load(&self, at: u32, size: u8) -> Result<u32, Denied>
         requires { (size ≡ 1) ⊎ ((size ≡ 2) ⊎ (size ≡ 4)) }
-        ensures number { MatchResult result (λ v. read_number Access.Read self.now.space at size ≡ Some v) (λ _. read_number Access.Read self.now.space at size ≡ None) }
+        ensures number { MatchResult result
+            (λ v. read_number Access.Read self.now.space at size ≡ Some v)
+            (λ _. read_number Access.Read self.now.space at size ≡ None) }
         ensures fits { IfOk result (λ v. v < 2 ^ (8 * size)) }
     {
         self.number(Access::Read, at, size)
@@ -160,7 +170,9 @@ impl Space {
     /// The word at `at`. Denied where one of its bytes may not be executed.
     #[inline(always)]
     pub fn fetch(&self, at: u32) -> Result<u32, Denied>
-        ensures { MatchResult result (λ v. read_number Access.Execute self.now.space at 4 ≡ Some v) (λ _. read_number Access.Execute self.now.space at 4 ≡ None) }
+        ensures { MatchResult result
+            (λ v. read_number Access.Execute self.now.space at 4 ≡ Some v)
+            (λ _. read_number Access.Execute self.now.space at 4 ≡ None) }
     {
         self.number(Access::Execute, at, 4)
     }
@@ -169,7 +181,9 @@ impl Space {
     #[inline(always)]
     fn number(&self, access: Access, at: u32, size: u8) -> Result<u32, Denied>
         requires { (size ≡ 1) ⊎ ((size ≡ 2) ⊎ (size ≡ 4)) }
-        ensures number { MatchResult result (λ v. read_number access self.now.space at size ≡ Some v) (λ _. read_number access self.now.space at size ≡ None) }
+        ensures number { MatchResult result
+            (λ v. read_number access self.now.space at size ≡ Some v)
+            (λ _. read_number access self.now.space at size ≡ None) }
         ensures fits { IfOk result (λ v. v < 2 ^ (8 * size)) }
     {
         if !self.allows(access, at, size) {
@@ -209,16 +223,19 @@ impl Space {
         number_of(&bytes[..size as usize])
     }
 
-    /// Whether the bytes of a page are in an area with the permission. An area is whole pages, and ends below the last page.
+    /// Whether the bytes of a page are in an area with the permission. An area is whole pages, and
+    /// ends below the last page.
     fn allows_page(&self, access: Access, page: u32) -> bool
         requires { page < 2 ^ 20 }
-        ensures permitted { (q : ℕ) → q / PAGE_SIZE ≡ page → result ≡ is_permitted access self.now.space.areas q }
+        ensures permitted { (q : ℕ) → q / PAGE_SIZE ≡ page
+            → result ≡ is_permitted access self.now.space.areas q }
         ensures below { result ≡ true → page < 0xFFFFF }
     {
         self.rights[page as usize].allows(access)
     }
 
-    /// Whether each of the `size` bytes from `at` on, modulo 2^32, is in an area with the permission. A page is looked up once.
+    /// Whether each of the `size` bytes from `at` on, modulo 2^32, is in an area with the
+    /// permission. A page is looked up once.
     #[inline(always)]
     fn allows(&self, access: Access, at: u32, size: u8) -> bool
         requires { (size ≡ 1) ⊎ ((size ≡ 2) ⊎ (size ≡ 4)) }
@@ -252,14 +269,17 @@ impl Space {
         true
     }
 
-    /// Stores the `size` low bytes of the value from `at` on, the lowest first. Denied, with no change, where one of them may not be written.
+    /// Stores the `size` low bytes of the value from `at` on, the lowest first. Denied, with no
+    /// change, where one of them may not be written.
     #[tactic(auto, unfolding(guest_model::specs::Space::write_number))]
     #[inline(always)]
     pub fn store(&mut self, at: u32, size: u8, value: u32) -> Result<(), Denied>
         requires size { (size ≡ 1) ⊎ ((size ≡ 2) ⊎ (size ≡ 4)) }
         requires frames { all_permitted Access.Write self.old.space.areas at size ≡ true
             → HasAllFrames self.old.frames (range at size ∷ []) }
-        ensures space { MatchResult result (λ _. write_number self.old.space at size value ≡ Some self.new.space) (λ _. write_number self.old.space at size value ≡ None) }
+        ensures space { MatchResult result
+            (λ _. write_number self.old.space at size value ≡ Some self.new.space)
+            (λ _. write_number self.old.space at size value ≡ None) }
         ensures frames { OnOk result (TakesFrames self.old.frames self.new.frames (range at size ∷ [])) }
         ensures denied { OnErr result (self.new ≡ self.old) }
     {
@@ -280,7 +300,8 @@ impl Space {
     pub fn put(&mut self, at: u32, bytes: &[u8])
         requires writable { is_range_permitted Access.Write self.old.space.areas at (length bytes.now) ≡ true }
         requires frames { HasAllFrames self.old.frames (range at (length bytes.now) ∷ []) }
-        ensures space { self.new.space ≡ with_bytes self.old.space (put_bytes self.old.space.bytes at bytes.now) }
+        ensures space { self.new.space
+            ≡ with_bytes self.old.space (put_bytes self.old.space.bytes at bytes.now) }
         ensures frames { TakesFrames self.old.frames self.new.frames (range at (length bytes.now) ∷ []) }
     {
         self.store_bytes(at, bytes);
@@ -290,9 +311,11 @@ impl Space {
     #[inline(never)]
     fn store_bytes(&mut self, at: u32, bytes: &[u8])
         requires end { at + length bytes.now ≤ 2 ^ 32 }
-        requires mapped { (i : ℕ) → i < length bytes.now → is_mapped self.old.space.areas (at + i) ≡ true }
+        requires mapped { (i : ℕ) → i < length bytes.now
+            → is_mapped self.old.space.areas (at + i) ≡ true }
         requires frames { HasAllFrames self.old.frames (range at (length bytes.now) ∷ []) }
-        ensures space { self.new.space ≡ with_bytes self.old.space (put_bytes self.old.space.bytes at bytes.now) }
+        ensures space { self.new.space
+            ≡ with_bytes self.old.space (put_bytes self.old.space.bytes at bytes.now) }
         ensures frames { TakesFrames self.old.frames self.new.frames (range at (length bytes.now) ∷ []) }
     {
         let mut done = 0;
@@ -311,14 +334,16 @@ impl Space {
         requires within { at % PAGE_SIZE + length bytes.now ≤ 4096 }
         requires mapped { is_mapped self.old.space.areas at ≡ true }
         requires frames { HasAllFrames self.old.frames (range at (length bytes.now) ∷ []) }
-        ensures space { self.new.space ≡ with_bytes self.old.space (put_bytes self.old.space.bytes at bytes.now) }
+        ensures space { self.new.space
+            ≡ with_bytes self.old.space (put_bytes self.old.space.bytes at bytes.now) }
         ensures frames { TakesFrames self.old.frames self.new.frames (range at (length bytes.now) ∷ []) }
     {
         self.pages.write(at, bytes);
     }
 
-    /// Adds an area that holds the given bytes from `at` on and zeros elsewhere. No frame is used, and no page counts as written.
-    /// `Err` where memory is lacking, or where an empty area would stand within the heap.
+    /// Adds an area that holds the given bytes from `at` on and zeros elsewhere. No frame is used,
+    /// and no page counts as written. `Err` where memory is lacking, or where an empty area would
+    /// stand within the heap.
     pub fn add_area(&mut self, area: Area, at: u32, bytes: &[u8]) -> Result<(), AllocError>
         requires unwritten { count_marked self.old.frames.written ≡ 0 }
         requires start { area.start % PAGE_SIZE ≡ 0 }
@@ -350,8 +375,9 @@ impl Space {
         Ok(())
     }
 
-    /// The call brk: the heap ends at `to` from now on, where that is no lower than before and at most MAPS_START, and at
-    /// most 16,384 pages are mapped then. New bytes are 0. The result is where the heap ends. No frame is used.
+    /// The call brk: the heap ends at `to` from now on, where that is no lower than before and at
+    /// most MAPS_START, and at most 16,384 pages are mapped then. New bytes are 0. The result is
+    /// where the heap ends. No frame is used.
     #[tactic(auto, unfolding(guest_model::specs::Maps::grow_of))]
     pub fn grow_break(&mut self, to: u32) -> u32
         ensures result { result ≡ (grow_of self.old.space to).answer }
@@ -394,8 +420,9 @@ impl Space {
         self.heap_break = to;
     }
 
-    /// The call mmap2: a new area of `len` bytes of zeros, rounded up to whole pages, for private and anonymous maps that may
-    /// not be executed. The result is where it starts, or EINVAL or ENOMEM as a call's result. No frame is used.
+    /// The call mmap2: a new area of `len` bytes of zeros, rounded up to whole pages, for private
+    /// and anonymous maps that may not be executed. The result is where it starts, or EINVAL or
+    /// ENOMEM as a call's result. No frame is used.
     #[tactic(auto, unfolding(guest_model::specs::Maps::map_of))]
     pub fn map(&mut self, len: u32, prot: u32, flags: u32) -> u32
         ensures result { result ≡ (map_of self.old.space len prot flags).answer }
@@ -450,14 +477,15 @@ impl Space {
         start
     }
 
-    /// The call munmap: unmaps the pages of a range of `len` bytes, rounded up to whole pages, where maps may stand. Pages of
-    /// it that are not mapped are no fault. The result is 0, or EINVAL or ENOMEM as a call's result. The frames of the pages
-    /// are free again.
+    /// The call munmap: unmaps the pages of a range of `len` bytes, rounded up to whole pages,
+    /// where maps may stand. Pages of it that are not mapped are no fault. The result is 0, or
+    /// EINVAL or ENOMEM as a call's result. The frames of the pages are free again.
     #[tactic(auto, unfolding(guest_model::specs::Maps::unmap_of))]
     pub fn unmap(&mut self, at: u32, len: u32) -> u32
         ensures result { result ≡ (unmap_of self.old.space at len).answer }
         ensures space { self.new.space ≡ (unmap_of self.old.space at len).space }
-        ensures frames { result ≡ 0 → GivesFramesBack self.new.space.areas self.old.frames self.new.frames }
+        ensures frames { result ≡ 0
+            → GivesFramesBack self.new.space.areas self.old.frames self.new.frames }
         ensures kept { result ≢ 0 → self.new ≡ self.old }
     {
         if at % PAGE_SIZE != 0 || len == 0 {

@@ -1,5 +1,6 @@
-//! The definitions that several crates cite: a guest's memory as one flat map of bytes, its machine, the
-//! effect of an instruction and of a call, and the serial run. No page, host or thread stands in them.
+//! The definitions that several crates cite: a guest's memory as one flat map of bytes, its
+//! machine, the effect of an instruction and of a call, and the serial run. No page, host or thread
+//! stands in them.
 #![tactic(auto)]
 
 pub mod laws;

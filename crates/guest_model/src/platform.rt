@@ -1,4 +1,5 @@
-// The numbers of the platform that a guest runs on. They stand here alone: definitions and code cite them.
+// The numbers of the platform that a guest runs on. They stand here alone: definitions and code
+// cite them.
 ghost use Rattle.std.specs.Prelude.{◌≡◌, ◌<◌};
 ghost use Rattle.guest_model.specs.Errors.{failure};
 
@@ -68,7 +69,8 @@ pub const EINVAL: u32 = 22;
 /// That the file is no terminal.
 pub const ENOTTY: u32 = 25;
 
-/// The result of a call that failed with an error of this number: the number, negative, modulo 2^32.
+/// The result of a call that failed with an error of this number: the number, negative, modulo
+/// 2^32.
 pub fn failure(number: u32) -> u32
     requires { 0 < number }
     ensures { result ≡ failure number }

@@ -1,5 +1,7 @@
 // Where the bytes of pages are kept.
-ghost use Rattle.std.specs.Prelude.{[], ◌∷◌, ◌++◌, ◌≡◌, ℕ, ◌+◌, ◌-◌, ◌*◌, ◌/◌, ◌%◌, ◌^◌, ◌<◌, ◌≤◌, ◌≢◌, ◌==◌, true, false, length, if◌then◌else◌, slice_index, vec_capacity, replicate, IfOk, MatchOption, OnOk};
+ghost use Rattle.std.specs.Prelude.{[], ◌∷◌, ◌++◌, ◌≡◌, ℕ, ◌+◌, ◌-◌, ◌*◌, ◌/◌, ◌%◌, ◌^◌, ◌<◌, ◌≤◌};
+ghost use Rattle.std.specs.Prelude.{◌≢◌, ◌==◌, true, false, length, if◌then◌else◌, slice_index};
+ghost use Rattle.std.specs.Prelude.{vec_capacity, replicate, IfOk, MatchOption, OnOk};
 ghost use Rattle.page_store.specs.Contents.{is_among};
 ghost use Rattle.page_store.specs.Places.{byte_in, has_place_in, pages_of, IsTable, HasRoom};
 
@@ -11,7 +13,8 @@ pub(crate) const PAGE_SIZE: usize = 4096;
 /// Places of 4,096 bytes, each for one page.
 #[derive(Drop)]
 pub(crate) struct Places {
-    /// For each page, the number of its place; it counts only where that place names the page as its owner.
+    /// For each page, the number of its place; it counts only where that place names the page as
+    /// its owner.
     table: Vec<u32>,
     /// For each place, its page.
     owners: Vec<u32>,
@@ -39,7 +42,9 @@ impl Places {
     #[inline(always)]
     fn place_of(&self, page: u32) -> Option<usize>
         requires { page < length self.now.table.items }
-        ensures { MatchOption result (has_place_in self.now page ≡ false) (λ place. (has_place_in self.now page ≡ true) × (place ≡ slice_index self.now.table.items page)) }
+        ensures { MatchOption result (has_place_in self.now page ≡ false)
+            (λ place. (has_place_in self.now page ≡ true)
+            × (place ≡ slice_index self.now.table.items page)) }
     {
         let place = self.table[page as usize] as usize;
         if place < self.owners.len() && self.owners[place] == page {
@@ -61,13 +66,15 @@ impl Places {
         }
     }
 
-    /// The `len` bytes from `at` on, all in one page. None where the page has no place, and so each of them is 0.
+    /// The `len` bytes from `at` on, all in one page. None where the page has no place, and so each
+    /// of them is 0.
     #[inline(always)]
     pub(crate) fn slice(&self, at: u32, len: usize) -> Option<&[u8]>
         requires table { IsTable self.now }
         requires within { at % 4096 + len ≤ 4096 }
         ensures { MatchOption result ((i : ℕ) → i < len → byte_in self.now (at + i) ≡ 0)
-            (λ bytes. (length bytes.now ≡ len) × ((i : ℕ) → i < len → slice_index bytes.now i ≡ byte_in self.now (at + i))) }
+            (λ bytes. (length bytes.now ≡ len) × ((i : ℕ) → i < len
+            → slice_index bytes.now i ≡ byte_in self.now (at + i))) }
     {
         match self.place_of(at / 4096) {
             None => None,
@@ -117,15 +124,19 @@ impl Places {
         self.table[page as usize] = place as u32;
     }
 
-    /// Takes the place of a page back, if it has one: its bytes are 0 from now on. The bytes of the last place move there.
+    /// Takes the place of a page back, if it has one: its bytes are 0 from now on. The bytes of the
+    /// last place move there.
     pub(crate) fn take_back(&mut self, page: u32)
         requires table { IsTable self.old }
         requires page { page < 2 ^ 20 }
         ensures table { IsTable self.new }
-        ensures bytes { (q : ℕ) → byte_in self.new q ≡ (if q / 4096 == page then 0 else byte_in self.old q) }
-        ensures kept { (p : ℕ) → p ≢ page → has_place_in self.old p ≡ true → has_place_in self.new p ≡ true }
+        ensures bytes { (q : ℕ) → byte_in self.new q ≡ (if q / 4096 == page then 0
+            else byte_in self.old q) }
+        ensures kept { (p : ℕ) → p ≢ page → has_place_in self.old p ≡ true
+            → has_place_in self.new p ≡ true }
         ensures room { (n : ℕ) → HasRoom self.old n → HasRoom self.new n }
-        ensures more { has_place_in self.old page ≡ true → (n : ℕ) → HasRoom self.old n → HasRoom self.new (n + 1) }
+        ensures more { has_place_in self.old page ≡ true → (n : ℕ) → HasRoom self.old n
+            → HasRoom self.new (n + 1) }
     {
         if let Some(place) = self.place_of(page) {
             let last = self.owners.len() - 1;
@@ -143,7 +154,8 @@ impl Places {
         requires placed { has_place_in self.old (at / 4096) ≡ true }
         requires within { at % 4096 + length source.now ≤ 4096 }
         ensures table { IsTable self.new }
-        ensures bytes { (q : ℕ) → byte_in self.new q ≡ (if is_among at (length source.now) q then slice_index source.now (q - at) else byte_in self.old q) }
+        ensures bytes { (q : ℕ) → byte_in self.new q ≡ (if is_among at (length source.now) q
+            then slice_index source.now (q - at) else byte_in self.old q) }
         ensures kept { (p : ℕ) → has_place_in self.old p ≡ true → has_place_in self.new p ≡ true }
         ensures room { (n : ℕ) → HasRoom self.old n → HasRoom self.new n }
     {
@@ -161,9 +173,11 @@ impl Places {
         requires end { at + length source.now ≤ 2 ^ 32 }
         requires room { HasRoom self.old (pages_of at (length source.now)) }
         ensures table { IsTable self.new }
-        ensures bytes { (q : ℕ) → byte_in self.new q ≡ (if is_among at (length source.now) q then slice_index source.now (q - at) else byte_in self.old q) }
+        ensures bytes { (q : ℕ) → byte_in self.new q ≡ (if is_among at (length source.now) q
+            then slice_index source.now (q - at) else byte_in self.old q) }
         ensures kept { (p : ℕ) → has_place_in self.old p ≡ true → has_place_in self.new p ≡ true }
-        ensures room { (n : ℕ) → HasRoom self.old (n + pages_of at (length source.now)) → HasRoom self.new n }
+        ensures room { (n : ℕ) → HasRoom self.old (n + pages_of at (length source.now))
+            → HasRoom self.new n }
     {
         let mut done = 0;
         while done < source.len() {
@@ -191,8 +205,11 @@ fn move_last(bytes: &mut Vec<u8>, last: usize, place: usize)
     requires few { last < 2 ^ 20 }
     requires len { length bytes.old.items ≡ 4096 * (last + 1) }
     ensures len { length bytes.new.items ≡ 4096 * last }
-    ensures moved { (i : ℕ) → i < 4096 → place < last → slice_index bytes.new.items (4096 * place + i) ≡ slice_index bytes.old.items (4096 * last + i) }
-    ensures same { (k : ℕ) → k / 4096 ≢ place → k < 4096 * last → slice_index bytes.new.items k ≡ slice_index bytes.old.items k }
+    ensures moved { (i : ℕ) → i < 4096 → place < last
+        → slice_index bytes.new.items (4096 * place + i)
+        ≡ slice_index bytes.old.items (4096 * last + i) }
+    ensures same { (k : ℕ) → k / 4096 ≢ place → k < 4096 * last
+        → slice_index bytes.new.items k ≡ slice_index bytes.old.items k }
     ensures capacity { vec_capacity bytes.new ≡ vec_capacity bytes.old }
 {
     let from = PAGE_SIZE * last;
@@ -204,7 +221,9 @@ fn move_last(bytes: &mut Vec<u8>, last: usize, place: usize)
 #[inline(always)]
 fn copy(bytes: &mut Vec<u8>, from: usize, source: &[u8])
     requires within { from + length source.now ≤ length bytes.old.items }
-    ensures bytes { (k : ℕ) → slice_index bytes.new.items k ≡ (if is_among from (length source.now) k then slice_index source.now (k - from) else slice_index bytes.old.items k) }
+    ensures bytes { (k : ℕ) → slice_index bytes.new.items k
+        ≡ (if is_among from (length source.now) k then slice_index source.now (k - from)
+        else slice_index bytes.old.items k) }
     ensures len { length bytes.new.items ≡ length bytes.old.items }
     ensures capacity { vec_capacity bytes.new ≡ vec_capacity bytes.old }
 {

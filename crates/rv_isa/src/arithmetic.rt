@@ -4,8 +4,9 @@ ghost use Rattle.rv_isa.specs.Arithmetic.{alu_of};
 
 use crate::op::Op;
 
-/// What an instruction that computes gives, or None for any other. `a` is the value of `rs1`; `b` is that of `rs2`, or
-/// the immediate, sign extended, as 32 bits. A division by zero gives all ones, its remainder the dividend.
+/// What an instruction that computes gives, or None for any other. `a` is the value of `rs1`; `b`
+/// is that of `rs2`, or the immediate, sign extended, as 32 bits. A division by zero gives all
+/// ones, its remainder the dividend.
 #[inline(always)]
 pub fn alu(op: Op, a: u32, b: u32) -> Option<u32>
     ensures { result ≡ alu_of op a b }

@@ -8,11 +8,12 @@ use crate::op::Op;
 use std::marker::Model;
 use std::mem::size_of;
 
-// Where the register `rd` of an instruction stands, the mark of a word that has none: no register has this number.
+// Where the register `rd` of an instruction stands, the mark of a word that has none: no register
+// has this number.
 const NO_INSTRUCTION: u8 = 32;
 
-/// What a word decodes to: an instruction, or that no row of the table has the word. It takes 8 bytes, so that a table of
-/// them is read with one access.
+/// What a word decodes to: an instruction, or that no row of the table has the word. It takes 8
+/// bytes, so that a table of them is read with one access.
 #[derive(Drop)]
 pub struct DecodedWord {
     op: Op,

@@ -1,7 +1,8 @@
 // From words to instructions: first the opcode, then the function fields.
 ghost use Rattle.std.specs.Prelude.{◌≡◌, IfSome};
 ghost use Rattle.rv_isa.specs.Word.{bits};
-ghost use Rattle.rv_isa.specs.Table.{row_of, IsFixed, i_immediate, s_immediate, b_immediate, u_immediate, j_immediate, Decodes, Fields};
+ghost use Rattle.rv_isa.specs.Table.{row_of, IsFixed, i_immediate, s_immediate, b_immediate};
+ghost use Rattle.rv_isa.specs.Table.{u_immediate, j_immediate, Decodes, Fields};
 ghost use Rattle.rv_isa.specs.Decoded.{decoded};
 ghost use Rattle.rv_isa.specs.declared.op.Op.{Op};
 

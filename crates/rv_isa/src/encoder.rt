@@ -8,7 +8,8 @@ use crate::instr::Instr;
 use crate::op::{Form, Op};
 use crate::word::bits;
 
-/// The word of an instruction. The ignored fields of `fence` are those of a fence of all accesses before all after.
+/// The word of an instruction. The ignored fields of `fence` are those of a fence of all accesses
+/// before all after.
 pub fn encode(i: &Instr) -> u32
     ensures row { Decodes result i.now }
     ensures only { (word : ℕ) → Decodes word i.now → i.now.op ≢ Op.Fence → word ≡ result }

@@ -5,8 +5,9 @@ ghost use Rattle.rv_isa.specs.Table.{Fields, IsInstr};
 use crate::op::Op;
 use std::marker::Model;
 
-/// An instruction. The registers `rd`, `rs1` and `rs2` are numbers below 32. The immediate `imm` has its sign; a
-/// shift's is its amount, and that of `lui` and `auipc` is a multiple of 4,096. Fields that its form lacks are 0.
+/// An instruction. The registers `rd`, `rs1` and `rs2` are numbers below 32. The immediate `imm`
+/// has its sign; a shift's is its amount, and that of `lui` and `auipc` is a multiple of 4,096.
+/// Fields that its form lacks are 0.
 #[derive(Clone, Copy, PartialEq, Eq)]
 pub struct Instr {
     pub op: Op,

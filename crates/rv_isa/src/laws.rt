@@ -11,7 +11,8 @@ pub fn one_instruction()
 
 /// An instruction other than fence has at most one word.
 pub fn one_word()
-    ensures { (word other : ℕ) (i : Fields) → i.op ≢ Op.Fence → Decodes word i → Decodes other i → word ≡ other }
+    ensures { (word other : ℕ) (i : Fields) → i.op ≢ Op.Fence → Decodes word i → Decodes other i
+        → word ≡ other }
 {}
 
 /// What a word decodes to is an instruction, with its fields in the range of its form.

@@ -57,8 +57,9 @@ pub enum Op {
     Remu,
 }
 
-/// Where a word keeps an instruction's fields: the manual's base formats, `Shift` for an I whose immediate is an
-/// amount of 5 bits, and `Bare` for the words of fence, ecall and ebreak, which keep none.
+/// Where a word keeps an instruction's fields: the manual's base formats, `Shift` for an I whose
+/// immediate is an amount of 5 bits, and `Bare` for the words of fence, ecall and ebreak, which
+/// keep none.
 #[derive(Clone, Copy, PartialEq, Eq)]
 pub enum Form {
     R,

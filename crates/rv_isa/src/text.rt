@@ -8,8 +8,9 @@ use crate::op::{Form, Op};
 use crate::word::bits;
 use std::alloc::{AllocError, Global};
 
-/// The text of an instruction: its name, then its operands with no space between them, registers as `x0` to `x31`,
-/// immediates in decimal, and those of `lui` and `auipc` as the upper 20 bits in hexadecimal.
+/// The text of an instruction: its name, then its operands with no space between them, registers as
+/// `x0` to `x31`, immediates in decimal, and those of `lui` and `auipc` as the upper 20 bits in
+/// hexadecimal.
 pub fn instr_text(alloc: Global, i: &Instr) -> Result<String, AllocError>
     ensures { IfOk result (λ text. string_bytes text ≡ text_of i.now) }
 {
@@ -28,13 +29,16 @@ pub fn instr_text(alloc: Global, i: &Instr) -> Result<String, AllocError>
 }
 
 fn three_registers(alloc: Global, name: &str, a: u8, b: u8, c: u8) -> Result<String, AllocError>
-    ensures { IfOk result (λ text. string_bytes text ≡ name.now ++ listed (register a) (register b) (register c)) }
+    ensures { IfOk result
+        (λ text. string_bytes text ≡ name.now ++ listed (register a) (register b) (register c)) }
 {
     format!(in alloc; "{name} x{a},x{b},x{c}")
 }
 
 fn two_registers(alloc: Global, name: &str, a: u8, b: u8, imm: i32) -> Result<String, AllocError>
-    ensures { IfOk result (λ text. string_bytes text ≡ name.now ++ listed (register a) (register b) (signed_decimal imm)) }
+    ensures { IfOk result
+        (λ text. string_bytes text ≡ name.now
+        ++ listed (register a) (register b) (signed_decimal imm)) }
 {
     format!(in alloc; "{name} x{a},x{b},{imm}")
 }
@@ -46,13 +50,17 @@ fn address(alloc: Global, name: &str, a: u8, imm: i32, base: u8) -> Result<Strin
 }
 
 fn jump(alloc: Global, name: &str, a: u8, imm: i32) -> Result<String, AllocError>
-    ensures { IfOk result (λ text. string_bytes text ≡ name.now ++ (codes " " ++ (register a ++ (codes "," ++ signed_decimal imm)))) }
+    ensures { IfOk result
+        (λ text. string_bytes text ≡ name.now ++ (codes " " ++ (register a ++ (codes ","
+        ++ signed_decimal imm)))) }
 {
     format!(in alloc; "{name} x{a},{imm}")
 }
 
 fn upper(alloc: Global, name: &str, a: u8, high: u32) -> Result<String, AllocError>
-    ensures { IfOk result (λ text. string_bytes text ≡ name.now ++ (codes " " ++ (register a ++ (codes ",0x" ++ digits 16 false high)))) }
+    ensures { IfOk result
+        (λ text. string_bytes text ≡ name.now ++ (codes " " ++ (register a ++ (codes ",0x"
+        ++ digits 16 false high)))) }
 {
     format!(in alloc; "{name} x{a},0x{high:x}")
 }

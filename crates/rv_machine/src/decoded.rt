@@ -26,7 +26,8 @@ impl Model for Entry {
     ghost invariant = { λ e. decoded e.word ≡ Some e.instr };
 }
 
-/// A table of words with their instructions, in which a word has one place. No contract sees which words it has.
+/// A table of words with their instructions, in which a word has one place. No contract sees which
+/// words it has.
 #[derive(Drop)]
 pub(crate) struct DecodedWords {
     entries: Vec<Entry>,
@@ -43,7 +44,8 @@ impl Model for DecodedWords {
 }
 
 impl DecodedWords {
-    /// A table that has the word of `nop` in each of its places. The memory that it needs is taken here.
+    /// A table that has the word of `nop` in each of its places. The memory that it needs is taken
+    /// here.
     pub(crate) fn new(alloc: Global) -> Result<DecodedWords, AllocError> {
         let mut entries = Vec::with_capacity(alloc, ENTRIES)?;
         for _i in 0..ENTRIES {
@@ -52,8 +54,8 @@ impl DecodedWords {
         Ok(DecodedWords { entries })
     }
 
-    /// The instruction of a word, or None where no row of the table has it. It is decoded only where the word is not in its
-    /// place; an instruction is there from then on.
+    /// The instruction of a word, or None where no row of the table has it. It is decoded only
+    /// where the word is not in its place; an instruction is there from then on.
     #[inline]
     pub(crate) fn decode(&mut self, word: u32) -> Option<Instr>
         ensures { result ≡ decoded word }
@@ -82,7 +84,8 @@ fn nop() -> Entry {
     }
 }
 
-// The place of a word: the upper bits of its product with 2^32 over the golden ratio, on which each of its bits tells.
+// The place of a word: the upper bits of its product with 2^32 over the golden ratio, on which each
+// of its bits tells.
 #[inline]
 fn place_of(word: u32) -> usize
     ensures { result < 4096 }

@@ -11,7 +11,8 @@ use guest_mem::Space;
 use rv_isa::{Instr, decode};
 use std::marker::Model;
 
-/// A guest's machine. Contracts see it as one value: pc, registers, memory, and whether its last instruction ended a block.
+/// A guest's machine. Contracts see it as one value: pc, registers, memory, and whether its last
+/// instruction ended a block.
 #[derive(Drop)]
 pub struct Guest {
     pub(crate) pc: u32,

@@ -2,7 +2,8 @@
 ghost use Rattle.std.specs.Prelude.{◌≡◌, ◌-◌, ◌^◌, ◌≤◌, All, IfOk, map, min, string_bytes};
 ghost use Rattle.elf_load.specs.Image.{IsSegment};
 ghost use Rattle.guest_mem.specs.Memory.{free_frames};
-ghost use Rattle.rv_machine.specs.Load.{LoadGives, area_of, first_break, segments_space, strings_size};
+ghost use Rattle.rv_machine.specs.Load.{LoadGives, area_of, first_break, segments_space};
+ghost use Rattle.rv_machine.specs.Load.{strings_size};
 ghost use Rattle.rv_machine.specs.declared.load.LoadFault.TheVariants.{NoMemory};
 
 use crate::decoded::DecodedWords;
@@ -33,13 +34,13 @@ impl From<AllocError> for LoadFault {
 }
 
 impl Guest {
-    /// The guest that runs an image from its first instruction on. Its stack has the argument strings, the first of which is
-    /// by custom the program's name, and the auxiliary vector. `frames` pages can be written until there is no frame more; no
-    /// page counts as written yet.
+    /// The guest that runs an image from its first instruction on. Its stack has the argument
+    /// strings, the first of which is by custom the program's name, and the auxiliary vector.
+    /// `frames` pages can be written until there is no frame more; no page counts as written yet.
     ///
     /// # Errors
-    /// `ArgsTooLong` where the strings with a zero byte each have more than 65,536 bytes; `NoMemory` where there is no memory
-    /// for the guest.
+    /// `ArgsTooLong` where the strings with a zero byte each have more than 65,536 bytes;
+    /// `NoMemory` where there is no memory for the guest.
     pub fn load(
         alloc: Global,
         image: &Image,

@@ -1,8 +1,10 @@
 // The bytes of a guest's stack at position 0.
-ghost use Rattle.std.specs.Prelude.{◌≡◌, ◌+◌, ◌-◌, ◌*◌, ◌/◌, ◌≤◌, ◌++◌, IfOk, OnOk, map, string_bytes};
+ghost use Rattle.std.specs.Prelude.{◌≡◌, ◌+◌, ◌-◌, ◌*◌, ◌/◌, ◌≤◌, ◌++◌, IfOk, OnOk, map};
+ghost use Rattle.std.specs.Prelude.{string_bytes};
 ghost use Rattle.std.specs.List.{flat_map};
 ghost use Rattle.guest_model.specs.Bytes.{low_bytes};
-ghost use Rattle.rv_machine.specs.Load.{first_stack, stack_pointer_of, stack_words, strings_at, strings_size, with_zero};
+ghost use Rattle.rv_machine.specs.Load.{first_stack, stack_pointer_of, stack_words, strings_at};
+ghost use Rattle.rv_machine.specs.Load.{strings_size, with_zero};
 
 use elf_load::Image;
 use guest_model::Area;
@@ -26,7 +28,8 @@ const RANDOM_BYTES: [u8; 16] = [0, 1, 2, 3, 4, 5, 6, 7, 8, 9, 10, 11, 12, 13, 14
 // The words but for the addresses of the strings: argc, two zeros and seven pairs.
 const OTHER_WORDS: u32 = 17;
 
-/// The stack pointer, from which the words of `count` arguments have room below the strings, which begin at `strings`.
+/// The stack pointer, from which the words of `count` arguments have room below the strings, which
+/// begin at `strings`.
 pub(crate) fn stack_pointer(count: usize, strings: u32) -> u32
     requires { 4 * (count + 17) ≤ strings }
     ensures { result ≡ (strings - 4 * (count + 17)) / 16 * 16 }
@@ -45,7 +48,8 @@ pub(crate) fn first_stack(
     requires few { strings_size (map string_bytes args.now) ≤ MOST_STRINGS }
     requires strings { strings ≡ strings_at (map string_bytes args.now) }
     requires pointer { pointer ≡ stack_pointer_of (map string_bytes args.now) }
-    ensures { IfOk result (λ bytes. bytes.items ≡ first_stack image.now (map string_bytes args.now)) }
+    ensures { IfOk result
+        (λ bytes. bytes.items ≡ first_stack image.now (map string_bytes args.now)) }
 {
     let mut bytes = Vec::new(alloc);
     put_words(&mut bytes, &stack_words(alloc, image, args, strings)?)?;
@@ -64,7 +68,8 @@ fn stack_words(
 ) -> Result<Vec<u32>, AllocError>
     requires few { strings_size (map string_bytes args.now) ≤ MOST_STRINGS }
     requires strings { strings ≡ strings_at (map string_bytes args.now) }
-    ensures { IfOk result (λ words. words.items ≡ stack_words image.now (map string_bytes args.now)) }
+    ensures { IfOk result
+        (λ words. words.items ≡ stack_words image.now (map string_bytes args.now)) }
 {
     let mut words = Vec::new(alloc);
     words.push(args.len() as u32)?;
@@ -106,7 +111,8 @@ fn put_words(bytes: &mut Vec<u8>, words: &[u32]) -> Result<(), AllocError>
 
 // Puts the strings at the end, with a zero byte each.
 fn put_strings(bytes: &mut Vec<u8>, args: &[String]) -> Result<(), AllocError>
-    ensures { OnOk result (bytes.new.items ≡ bytes.old.items ++ flat_map with_zero (map string_bytes args.now)) }
+    ensures { OnOk result (bytes.new.items ≡ bytes.old.items
+        ++ flat_map with_zero (map string_bytes args.now)) }
 {
     for arg in args {
         bytes.extend_from_slice(arg.as_bytes())?;

@@ -1,6 +1,9 @@
 // One step: fetch, decode, carry out.
 ghost use Rattle.std.specs.Prelude.{◌≡◌, ◌<◌};
-ghost use Rattle.guest_model.specs.Effect.{effect_of, effect_by, stored_by, rs1_value, rs2_value, immediate, address, target, machine_at, machine_with, passes, writes, computes, jumps, branches, loads, stores};
+ghost use Rattle.guest_model.specs.Effect.{effect_of, effect_by, stored_by, rs1_value, rs2_value};
+ghost use Rattle.guest_model.specs.Effect.{immediate, address, target, machine_at, machine_with};
+ghost use Rattle.guest_model.specs.Effect.{passes, writes, computes, jumps, branches, loads};
+ghost use Rattle.guest_model.specs.Effect.{stores};
 ghost use Rattle.guest_model.specs.Machine.{following};
 ghost use Rattle.guest_model.specs.Written.{written_by};
 ghost use Rattle.guest_mem.specs.Frames.{HasAllFrames};
@@ -41,7 +44,8 @@ pub enum End {
 }
 
 impl End {
-    /// The exit status that a shell sees: that of the call, or 128 plus the number of the fault's signal.
+    /// The exit status that a shell sees: that of the call, or 128 plus the number of the fault's
+    /// signal.
     pub fn status(&self) -> u8
         ensures { result ≡ status_of self.now }
     {
@@ -69,7 +73,8 @@ impl Guest {
         self.carry_out(&i)
     }
 
-    // Carries out an instruction. Each load and store has an arm of its own, so that its size is a constant there.
+    // Carries out an instruction. Each load and store has an arm of its own, so that its size is a
+    // constant there.
     fn carry_out(&mut self, i: &Instr) -> Stepped
         requires { HasAllFrames self.old.frames (stored_by (effect_by i.now.op self.old.machine i.now)) }
         ensures { Gives (effect_by i.now.op self.old.machine i.now) result self.old self.new }

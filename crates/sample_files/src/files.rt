@@ -23,8 +23,8 @@ const TWO_SEGMENTS: [u32; 29] = [
     0x00020000, 0x00000000, 0x00002000, 0x00000006, 0x00001000,
 ];
 
-// Data at 0x20080 with zeros behind it, first in the table, and code at 0x10074; then seven symbols, their
-// names and three section headers.
+// Data at 0x20080 with zeros behind it, first in the table, and code at 0x10074; then seven
+// symbols, their names and three section headers.
 const SYMBOLS: [u32; 94] = [
     0x464c457f, 0x00010101, 0x00000000, 0x00000000, 0x00f30002, 0x00000001, 0x00010074, 0x00000034,
     0x00000100, 0x00000000, 0x00200034, 0x00280002, 0x00000003, 0x00000001, 0x00000080, 0x00020080,
@@ -40,8 +40,8 @@ const SYMBOLS: [u32; 94] = [
     0x000000f4, 0x0000000c, 0x00000000, 0x00000000, 0x00000001, 0x00000000,
 ];
 
-// The bytes of these headers and of these words of code, the lowest byte of each first. Words 17 and 18 are the
-// file's size, which is right where there are at most 1,000 words of code.
+// The bytes of these headers and of these words of code, the lowest byte of each first. Words 17
+// and 18 are the file's size, which is right where there are at most 1,000 words of code.
 fn file_of(alloc: Global, headers: &[u32], code: &[u32]) -> Result<Vec<u8>, AllocError> {
     let size = 4 * (headers.len().min(94) + code.len().min(1000)) as u32;
     let mut bytes = Vec::new(alloc);
@@ -52,21 +52,22 @@ fn file_of(alloc: Global, headers: &[u32], code: &[u32]) -> Result<Vec<u8>, Allo
     Ok(bytes)
 }
 
-/// A file of one segment, which is the file, at 0x10000. It can be read and executed. These words, at most 1,000,
-/// lie at its entry, 0x10054.
+/// A file of one segment, which is the file, at 0x10000. It can be read and executed. These words,
+/// at most 1,000, lie at its entry, 0x10054.
 pub fn one_segment(alloc: Global, code: &[u32]) -> Result<Vec<u8>, AllocError> {
     file_of(alloc, &ONE_SEGMENT, code)
 }
 
-/// A file of two segments. The first is as that of [`one_segment`], with the words at 0x10074. The second is two
-/// pages of zeros at 0x20000, which can be read and written.
+/// A file of two segments. The first is as that of [`one_segment`], with the words at 0x10074. The
+/// second is two pages of zeros at 0x20000, which can be read and written.
 pub fn two_segments(alloc: Global, code: &[u32]) -> Result<Vec<u8>, AllocError> {
     file_of(alloc, &TWO_SEGMENTS, code)
 }
 
-/// A file with symbols. Its first segment is 4 bytes at 0x20080, 44 33 22 11, with zeros up to 0x21080, and its
-/// second the first 128 bytes of the file, with the code at 0x10074. It has the functions `end` at 0x10078, `main`
-/// at 0x10074 and `x` at 0x10078 too; an object and a function in data; and a function that is not defined.
+/// A file with symbols. Its first segment is 4 bytes at 0x20080, 44 33 22 11, with zeros up to
+/// 0x21080, and its second the first 128 bytes of the file, with the code at 0x10074. It has the
+/// functions `end` at 0x10078, `main` at 0x10074 and `x` at 0x10078 too; an object and a function
+/// in data; and a function that is not defined.
 pub fn symbol_file(alloc: Global) -> Result<Vec<u8>, AllocError> {
     let mut bytes = Vec::new(alloc);
     for word in &SYMBOLS {
@@ -75,7 +76,8 @@ pub fn symbol_file(alloc: Global) -> Result<Vec<u8>, AllocError> {
     Ok(bytes)
 }
 
-/// An edit of a file, which is refused then: it is cut to `size` bytes, and has the byte `value` at `place`.
+/// An edit of a file, which is refused then: it is cut to `size` bytes, and has the byte `value` at
+/// `place`.
 pub struct Edit {
     pub size: usize,
     pub place: usize,
@@ -92,8 +94,8 @@ pub fn edited(mut file: Vec<u8>, edit: &Edit) -> Vec<u8> {
     file
 }
 
-/// Edits of the file of [`two_segments`] with the words [`LOAD_PAST_DATA`], one for each fault but the last two,
-/// in the order of the tests.
+/// Edits of the file of [`two_segments`] with the words [`LOAD_PAST_DATA`], one for each fault but
+/// the last two, in the order of the tests.
 pub const EDITS: [Edit; 16] = [
     Edit {
         size: 51,

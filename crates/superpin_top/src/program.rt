@@ -14,8 +14,8 @@ use std::env;
 use std::io::ErrorKind;
 use std::process::ExitCode;
 
-/// Answers the command words, or says why they could not be read, and gives the exit status: that of
-/// the answer.
+/// Answers the command words, or says why they could not be read, and gives the exit status: that
+/// of the answer.
 pub fn answer_words<H: Host + Send, P: Pacer + Send>(
     alloc: Global,
     words: Result<Vec<String>, Refusal>,
@@ -41,8 +41,8 @@ pub fn answer_words<H: Host + Send, P: Pacer + Send>(
     }
 }
 
-// The command words without the program's own name. Words that are no UTF-8 text are in no form that
-// is built.
+// The command words without the program's own name. Words that are no UTF-8 text are in no form
+// that is built.
 fn command_words(rt: &HostRuntime) -> Result<Vec<String>, Refusal> {
     let args = match env::args(rt) {
         Ok(args) => args,

@@ -1,6 +1,9 @@
 // The report of a run, and the lines of refusals.
-ghost use Rattle.std.specs.Prelude.{◌≡◌, ◌+◌, ◌<◌, ◌≤◌, ◌++◌, ◌∷◌, [], IfOk, codes, decimal, length, string_bytes};
-ghost use Rattle.superpin_top.specs.Report.{report_of, end_text, hex_digit, eight_digits, address_text, elf_text, refusal_line as line_of, port_name};
+ghost use Rattle.std.specs.Prelude.{◌≡◌, ◌+◌, ◌<◌, ◌≤◌, ◌++◌, ◌∷◌, [], IfOk, codes, decimal};
+ghost use Rattle.std.specs.Prelude.{length, string_bytes};
+ghost use Rattle.superpin_top.specs.Report.{report_of, end_text, hex_digit, eight_digits};
+ghost use Rattle.superpin_top.specs.Report.{address_text, elf_text, refusal_line as line_of};
+ghost use Rattle.superpin_top.specs.Report.{port_name};
 ghost use Rattle.superpin_top.specs.Run.{end_by};
 
 use crate::answer::Refusal;
@@ -55,14 +58,18 @@ fn address_text(address: u32) -> ArrayString<10>
 
 // The end line of a run that a signal ended at an address.
 fn signal_at(alloc: Global, kind: u8, at: &str) -> Result<String, AllocError>
-    ensures { IfOk result (λ line. string_bytes line ≡ codes "end signal " ++ (decimal kind ++ (codes " at " ++ (at.now ++ codes "\n")))) }
+    ensures { IfOk result
+        (λ line. string_bytes line ≡ codes "end signal " ++ (decimal kind ++ (codes " at "
+        ++ (at.now ++ codes "\n")))) }
 {
     format!(in alloc; "end signal {kind} at {at}\n")
 }
 
 // The end line of a run that a signal ended.
 fn signal_line(alloc: Global, kind: u8, pc: u32) -> Result<String, AllocError>
-    ensures { IfOk result (λ line. string_bytes line ≡ codes "end signal " ++ (decimal kind ++ (codes " at " ++ (address_text pc ++ codes "\n")))) }
+    ensures { IfOk result
+        (λ line. string_bytes line ≡ codes "end signal " ++ (decimal kind ++ (codes " at "
+        ++ (address_text pc ++ codes "\n")))) }
 {
     signal_at(alloc, kind, address_text(pc).as_str())
 }
@@ -79,7 +86,8 @@ fn end_line(alloc: Global, end: End) -> Result<String, AllocError>
 
 /// The report of a run that ended: how many instructions it executed, and how it ended.
 pub(crate) fn report(alloc: Global, finish: &Finish) -> Result<String, AllocError>
-    ensures { IfOk result (λ text. string_bytes text ≡ report_of finish.now.count (end_by finish.now.end)) }
+    ensures { IfOk result
+        (λ text. string_bytes text ≡ report_of finish.now.count (end_by finish.now.end)) }
 {
     let count = finish.count;
     let end = end_line(alloc, finish.end)?;

@@ -9,8 +9,10 @@ ghost use Rattle.syscall_layer.specs.Serve.{told_after};
 ghost use Rattle.superpin_top.specs.Causes.{CausedBy, cause_of, refusal_of_read, refusal_of_run};
 ghost use Rattle.superpin_top.specs.Due.{name_of, program_of, program_of_file, program_of_tested};
 ghost use Rattle.superpin_top.specs.Due.{due_of};
-ghost use Rattle.superpin_top.specs.Outcome.{WhereAllTold, AttemptGives, WritesLine, Outcome, CanRise};
-ghost use Rattle.superpin_top.specs.Outcome.{NoneRose, IsDelivered, IsDecided, IsEarly, IsCaused, AddsFront};
+ghost use Rattle.superpin_top.specs.Outcome.{WhereAllTold, AttemptGives, WritesLine, Outcome};
+ghost use Rattle.superpin_top.specs.Outcome.{CanRise};
+ghost use Rattle.superpin_top.specs.Outcome.{NoneRose, IsDelivered, IsDecided, IsEarly, IsCaused};
+ghost use Rattle.superpin_top.specs.Outcome.{AddsFront};
 ghost use Rattle.superpin_top.specs.Outcome.{IsEndedWhereNone};
 ghost use Rattle.superpin_top.specs.Words.{asked, texts};
 ghost use Rattle.superpin_top.specs.Top.{IsBuilt, IsLate, ReadGives, LoadGives};
@@ -63,7 +65,8 @@ pub(crate) struct Loaded {
 // The bytes of a file, if they are few enough.
 fn read_program<H: Host>(alloc: Global, host: &mut H, name: &str) -> Result<Vec<u8>, Refusal>
     ensures told { H.told host.new ≡ H.told host.old }
-    ensures bytes { WhereTold (H.told host.old).files (λ files. ReadGives (file_of files name.now) result) }
+    ensures bytes { WhereTold (H.told host.old).files
+        (λ files. ReadGives (file_of files name.now) result) }
     ensures faults { MatchResult result (λ _. H.faults host.new ≡ H.faults host.old)
         (λ e. CausedBy e (H.faults host.old) (H.faults host.new)) }
     ensures built { IfErr result IsBuilt }
@@ -124,7 +127,8 @@ fn run_loaded<H: Host>(
     budget: u64,
 ) -> Result<u8, Refusal>
     requires frames { MOST_PAGES ≤ loaded.guest.frames.count }
-    ensures told { (t : Told) (w : World) (strings : List (List ℕ)) → H.told host.old ≡ told_after t w [] →
+    ensures told { (t : Told) (w : World) (strings : List (List ℕ))
+        → H.told host.old ≡ told_after t w [] →
         loaded.guest.machine ≡ machine_of loaded.image strings →
         AttemptGives t (Ok (record { image = loaded.image; strings = strings; budget = budget })) w
         result (H.told host.new) }
@@ -209,7 +213,8 @@ pub fn superpin<H: Host + Send, P: Pacer + Send>(
     ensures pacer { pacer.new ≡ pacer.old }
 
     // Where the files are told: the refusals that the words and the file alone decide.
-    ensures early { WhereTold (H.told host.old).files (λ files. (H.faults host.old).file < 2 ^ 64 - 1 →
+    ensures early { WhereTold (H.told host.old).files
+        (λ files. (H.faults host.old).file < 2 ^ 64 - 1 →
         (H.faults host.new).file ≡ (H.faults host.old).file →
         result ≢ Answer.Refused Refusal.NoMemory →
         IsEarly (program_of (texts words.now) files) result) }

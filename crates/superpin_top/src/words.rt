@@ -1,8 +1,11 @@
 // The command words.
-ghost use Rattle.std.specs.Prelude.{◌≡◌, ◌<◌, None, Some, IfSome, MatchOption, length, string_bytes};
+ghost use Rattle.std.specs.Prelude.{◌≡◌, ◌<◌, None, Some, IfSome, MatchOption, length};
+ghost use Rattle.std.specs.Prelude.{string_bytes};
 ghost use Rattle.std.specs.List.{list_all};
 ghost use Rattle.std.specs.Str.Parse.{digits_value, without_leading_plus};
-ghost use Rattle.superpin_top.specs.Words.{texts, is_digit, IsUnread, is_number, budget_of, is_plain, with_serial, with_budget, is_form, asked_with, behind_options, asked};
+ghost use Rattle.superpin_top.specs.Words.{texts, is_digit, IsUnread, is_number, budget_of};
+ghost use Rattle.superpin_top.specs.Words.{is_plain, with_serial, with_budget, is_form, asked_with};
+ghost use Rattle.superpin_top.specs.Words.{behind_options, asked};
 
 /// The most steps of a run, where the words name none.
 pub(crate) const DEFAULT_BUDGET: u64 = 1_000_000_000;
@@ -41,7 +44,8 @@ fn is_number(word: &[u8]) -> bool
 
 // The number that a text writes, if it has at most 64 bits.
 fn parsed(word: &str) -> Option<u64>
-    ensures { MatchOption result (IsUnread word.now) (λ n. n ≡ digits_value 10 (without_leading_plus word.now)) }
+    ensures { MatchOption result (IsUnread word.now)
+        (λ n. n ≡ digits_value 10 (without_leading_plus word.now)) }
 {
     match word.parse::<u64>() {
         Ok(n) => Some(n),
@@ -100,7 +104,8 @@ fn with_budget(options: Options, value: &String) -> Option<Options>
     Some(Options { budget, ..options })
 }
 
-// Whether the words behind the options are a file's name and arguments, of a run that is asked to be serial.
+// Whether the words behind the options are a file's name and arguments, of a run that is asked to
+// be serial.
 #[tactic(auto, using(crate::proofs::Plain::all_plain, crate::proofs::Plain::texts_len))]
 fn is_form(options: Options, words: &[String]) -> bool
     ensures { result ≡ is_form options (texts words.now) }
@@ -112,7 +117,8 @@ fn is_form(options: Options, words: &[String]) -> bool
 #[tactic(auto, using(crate::proofs::Plain::texts_len))]
 fn asked_with(options: Options, words: &[String]) -> Option<Request<'_>>
     ensures asked { MatchOption result (asked_with options (texts words.now) ≡ None)
-        (λ a. asked_with options (texts words.now) ≡ Some (record { budget = a.budget; strings = texts a.strings.now })) }
+        (λ a. asked_with options (texts words.now)
+        ≡ Some (record { budget = a.budget; strings = texts a.strings.now })) }
     ensures some { IfSome result (λ a. 0 < length a.strings.now) }
 {
     if !is_form(options, words) {
@@ -128,7 +134,8 @@ fn asked_with(options: Options, words: &[String]) -> Option<Request<'_>>
 #[tactic(auto, using(crate::proofs::Plain::next_option))]
 fn behind_options(options: Options, words: &[String]) -> Option<Request<'_>>
     ensures asked { MatchOption result (behind_options options (texts words.now) ≡ None)
-        (λ a. behind_options options (texts words.now) ≡ Some (record { budget = a.budget; strings = texts a.strings.now })) }
+        (λ a. behind_options options (texts words.now)
+        ≡ Some (record { budget = a.budget; strings = texts a.strings.now })) }
     ensures some { IfSome result (λ a. 0 < length a.strings.now) }
 {
     let [word, value, rest @ ..] = words else {
@@ -147,7 +154,8 @@ fn behind_options(options: Options, words: &[String]) -> Option<Request<'_>>
 #[tactic(auto, unfolding(crate::specs::Words::asked))]
 pub(crate) fn asked(words: &[String]) -> Option<Request<'_>>
     ensures asked { MatchOption result (asked (texts words.now) ≡ None)
-        (λ a. asked (texts words.now) ≡ Some (record { budget = a.budget; strings = texts a.strings.now })) }
+        (λ a. asked (texts words.now)
+        ≡ Some (record { budget = a.budget; strings = texts a.strings.now })) }
     ensures some { IfSome result (λ a. 0 < length a.strings.now) }
 {
     let [command, rest @ ..] = words else {

@@ -121,8 +121,7 @@ taken into count writes t now f g old new s fills told same is next frames =
       answer = record { record_is = (fills.bytes, fills.few, known); machine_is = next; frames = frames };
       told = λ at w before here.
           let first = fills.taken w.input (ap (λ (k : Told). k.input) here) in
-          let entry = known ∙ ap (λ (bs : List ℕ). record_of old.machine (length bs) (filled into bs)) first in
-          (
+          let entry = known ∙ ap (λ (bs : List ℕ). record_of old.machine (length bs) (filled into bs)) first in (
             next ∙ ap (λ (e : CallRecord). machine_after old.machine (Takes into) e) entry,
             entry,
             nothing_sent at now (input_after w (total_size into)) before (told ∙ ap (input_taken (total_size into)) here),
@@ -158,8 +157,7 @@ told_time deed at moment writes t now f g old new s does writes_are first told s
       answer = record { record_is = (moment, known); machine_is = next; frames = frames };
       told = λ from w before here.
           let same : moment ≡ moment_of w = first w.moments (ap (λ (k : Told). k.moments) here) in
-          let entry = known ∙ ap (λ (n : ℕ). record_of old.machine 0 (stored_at at (time_bytes n))) same in
-          (
+          let entry = known ∙ ap (λ (n : ℕ). record_of old.machine 0 (stored_at at (time_bytes n))) same in (
             next ∙ ap (λ (e : CallRecord). machine_after old.machine (Tells at) e) entry,
             entry,
             nothing_sent from now (moment_after w) before (told ∙ ap moment_taken here),

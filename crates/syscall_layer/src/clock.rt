@@ -14,7 +14,8 @@ use rv_machine::Guest;
 use sp_host::Host;
 use std::alloc::Global;
 
-// The bytes of the timespec of a moment in nanoseconds. `bytes` has room for them, so that this takes no memory.
+// The bytes of the timespec of a moment in nanoseconds. `bytes` has room for them, so that this
+// takes no memory.
 fn timespec(moment: u64, mut bytes: Vec<u8>) -> Vec<u8>
     requires none { bytes.items ≡ [] }
     requires room { 16 ≤ vec_capacity bytes }
@@ -29,7 +30,8 @@ fn timespec(moment: u64, mut bytes: Vec<u8>) -> Vec<u8>
     bytes
 }
 
-// The writes of a record: these bytes, where there are any. `writes` has room for them, so that this takes no memory.
+// The writes of a record: these bytes, where there are any. `writes` has room for them, so that
+// this takes no memory.
 fn written(at: u32, bytes: Vec<u8>, mut writes: Vec<Write>) -> Vec<Write>
     requires none { writes.items ≡ [] }
     requires room { 1 ≤ vec_capacity writes }
@@ -42,7 +44,8 @@ fn written(at: u32, bytes: Vec<u8>, mut writes: Vec<Write>) -> Vec<Write>
     writes
 }
 
-/// The call clock_gettime64: one moment is stored. The clocks CLOCK_REALTIME and CLOCK_MONOTONIC, 0 and 1, tell the same.
+/// The call clock_gettime64: one moment is stored. The clocks CLOCK_REALTIME and CLOCK_MONOTONIC, 0
+/// and 1, tell the same.
 ///
 /// # Errors
 /// `NoMemory` where there is no memory for the record.

@@ -35,7 +35,8 @@ fn put_all(space: &mut Space, writes: &[Write])
     requires writable { list_all (λ s. is_range_permitted Access.Write space.old.space.areas s.at
         (length s.bytes)) writes.now ≡ true }
     requires frames { HasAllFrames space.old.frames (map range_of writes.now) }
-    ensures space { space.new.space ≡ with_bytes space.old.space (store_all space.old.space.bytes writes.now) }
+    ensures space { space.new.space
+        ≡ with_bytes space.old.space (store_all space.old.space.bytes writes.now) }
     ensures frames { TakesFrames space.old.frames space.new.frames (map range_of writes.now) }
 {
     for write in writes {
@@ -45,7 +46,8 @@ fn put_all(space: &mut Space, writes: &[Write])
 
 /// Goes on behind a call that stores bytes, with its result.
 pub(crate) fn finish_storing(guest: &mut Guest, answer: u32, writes: Vec<Write>) -> Served
-    requires writable { list_all (λ s. is_range_permitted Access.Write guest.old.machine.space.areas s.at
+    requires writable { list_all
+        (λ s. is_range_permitted Access.Write guest.old.machine.space.areas s.at
         (length s.bytes)) writes.items ≡ true }
     requires frames { HasAllFrames guest.old.frames (map range_of writes.items) }
     ensures served { result ≡ served.Went (record_of guest.old.machine answer writes.items) }

@@ -22,13 +22,16 @@ use rv_machine::Guest;
 use sp_host::{Failed, Host};
 use std::alloc::{AllocError, Global};
 
-// Fills a buffer from the front of the input, and answers how many bytes came: fewer than the buffer has only where the input
-// has no more. A call of the host that moves less is not the end. After a failed call the input lacks what was taken before.
+// Fills a buffer from the front of the input, and answers how many bytes came: fewer than the
+// buffer has only where the input has no more. A call of the host that moves less is not the end.
+// After a failed call the input lacks what was taken before.
 fn fill<H: Host>(host: &mut H, buffer: &mut [u8]) -> Result<usize, Failed>
     ensures size { length buffer.new ≡ length buffer.old }
     ensures bound { IfOk result (λ n. n ≤ length buffer.new) }
-    ensures bytes { IfOk result (λ n. WhereTold (H.told host.old).input (λ left. Fills left n buffer.new)) }
-    ensures told { MatchResult result (λ _. H.told host.new ≡ input_taken (length buffer.old) (H.told host.old))
+    ensures bytes { IfOk result (λ n. WhereTold (H.told host.old).input
+        (λ left. Fills left n buffer.new)) }
+    ensures told { MatchResult result
+        (λ _. H.told host.new ≡ input_taken (length buffer.old) (H.told host.old))
         (λ _. IsCutShort (length buffer.old) (H.told host.old) (H.told host.new)) }
     ensures faults { Counts Input (H.faults host.old) (H.faults host.new) result }
 {
@@ -69,7 +72,8 @@ fn buffers(alloc: Global, ranges: &[Range]) -> Result<Vec<Write>, AllocError>
 
 // Gives a write the first of these bytes, as many as it has room for, and answers how many.
 fn deal_one(bytes: &[u8], write: &mut Write) -> usize
-    ensures write { write.new ≡ record { at = write.old.at; bytes = take (length write.old.bytes) bytes.now } }
+    ensures write { write.new
+        ≡ record { at = write.old.at; bytes = take (length write.old.bytes) bytes.now } }
     ensures count { result ≡ length (take (length write.old.bytes) bytes.now) }
 {
     let count = bytes.len().min(write.bytes.len());
@@ -92,14 +96,17 @@ fn deal(bytes: &[u8], writes: &mut Vec<Write>)
     writes.truncate(used);
 }
 
-// Takes bytes from the front of the input for these ranges. All memory is taken before the input is asked.
+// Takes bytes from the front of the input for these ranges. All memory is taken before the input is
+// asked.
 //
 // # Errors
 // `InputFault` where the input could not be read: it then lacks what was taken before. `NoMemory`.
 fn take_input<H: Host>(alloc: Global, host: &mut H, ranges: &[Range]) -> Result<Taken, CallFault>
     requires { total_size ranges.now ≤ MOST_READ }
-    ensures fills { IfOk result (λ r. FillsRanges ranges.now (H.told host.old) r.count r.writes.items) }
-    ensures told { MatchResult result (λ _. H.told host.new ≡ input_taken (total_size ranges.now) (H.told host.old))
+    ensures fills { IfOk result
+        (λ r. FillsRanges ranges.now (H.told host.old) r.count r.writes.items) }
+    ensures told { MatchResult result
+        (λ _. H.told host.new ≡ input_taken (total_size ranges.now) (H.told host.old))
         (λ e. FaultTakes e (total_size ranges.now) (H.told host.old) (H.told host.new)) }
     ensures faults { CausedIn source_of (H.faults host.old) (H.faults host.new) result }
 {
@@ -135,7 +142,8 @@ fn take_into<H: Host>(
 /// The call read: the first bytes of the input left go to a buffer.
 ///
 /// # Errors
-/// `InputFault` where the input could not be read; `NoMemory` where there is no memory for what is read.
+/// `InputFault` where the input could not be read; `NoMemory` where there is no memory for what is
+/// read.
 pub(crate) fn read_call<H: Host>(
     alloc: Global,
     guest: &mut Guest,
@@ -159,7 +167,8 @@ pub(crate) fn read_call<H: Host>(
 /// The call readv: the first bytes of the input left go to the ranges of an array, in order.
 ///
 /// # Errors
-/// `InputFault` where the input could not be read; `NoMemory` where there is no memory for what is read.
+/// `InputFault` where the input could not be read; `NoMemory` where there is no memory for what is
+/// read.
 pub(crate) fn readv_call<H: Host>(
     alloc: Global,
     guest: &mut Guest,

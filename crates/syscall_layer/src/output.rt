@@ -1,5 +1,6 @@
 // The calls that write, and ioctl.
-ghost use Rattle.std.specs.Prelude.{◌≡◌, ◌+◌, ◌^◌, ◌≤◌, true, false, Some, length, MatchResult, MatchOption};
+ghost use Rattle.std.specs.Prelude.{◌≡◌, ◌+◌, ◌^◌, ◌≤◌, true, false, Some, length, MatchResult};
+ghost use Rattle.std.specs.Prelude.{MatchOption};
 ghost use Rattle.std.specs.Prelude.{if◌then◌else◌};
 ghost use Rattle.std.specs.List.{flat_map, list_all};
 ghost use Rattle.sp_host.specs.Told.{sent, PartSent};
@@ -7,7 +8,8 @@ ghost use Rattle.sp_host.specs.Faults.{Counts};
 ghost use Rattle.sp_host.specs.Faults.Source.{To};
 ghost use Rattle.guest_model.specs.Areas.{is_range_permitted};
 ghost use Rattle.guest_model.specs.Bytes.{bytes_at};
-ghost use Rattle.guest_model.specs.Calls.{argument, array_of, can_read, can_read_array, is_open, is_output};
+ghost use Rattle.guest_model.specs.Calls.{argument, array_of, can_read, can_read_array, is_open};
+ghost use Rattle.guest_model.specs.Calls.{is_output};
 ghost use Rattle.guest_model.specs.Calls.{range_bytes, write_row, writev_row};
 ghost use Rattle.guest_model.specs.Errors.{failure};
 ghost use Rattle.guest_model.specs.declared.Access.{Access};
@@ -37,14 +39,9 @@ pub(crate) fn copy(space: &Space, at: u32, buffer: &mut [u8])
     }
 }
 
-// Writes the `len` bytes of memory from `at` on, or a part of them and then answers `Failed`. It takes no memory.
-fn send<H: Host>(
-    host: &mut H,
-    space: &Space,
-    port: Port,
-    at: u32,
-    len: u32,
-) -> Result<(), Failed>
+// Writes the `len` bytes of memory from `at` on, or a part of them and then answers `Failed`. It
+// takes no memory.
+fn send<H: Host>(host: &mut H, space: &Space, port: Port, at: u32, len: u32) -> Result<(), Failed>
     requires readable { is_range_permitted Access.Read space.now.space.areas at len ≡ true }
     ensures told { let bytes = bytes_at space.now.space.bytes at len in
         MatchResult result (λ _. H.told host.new ≡ sent port bytes (H.told host.old))
@@ -101,8 +98,8 @@ pub(crate) fn write_call<H: Host>(
     }
 }
 
-// Writes the bytes of all ranges of the array that the call names, or a part of them and then answers `Failed`. It takes no
-// memory.
+// Writes the bytes of all ranges of the array that the call names, or a part of them and then
+// answers `Failed`. It takes no memory.
 fn send_array<H: Host>(host: &mut H, guest: &Guest, port: Port) -> Result<(), Failed>
     requires array { can_read_array guest.now.machine ≡ true }
     requires readable { list_all (λ r. can_read guest.now.machine r.at r.size)

@@ -3,7 +3,8 @@ ghost use Rattle.std.specs.Prelude.{◌≡◌, ◌+◌, ◌*◌, ◌<◌, ◌≤
 ghost use Rattle.std.specs.List.{list_all};
 ghost use Rattle.guest_model.specs.Areas.{is_range_permitted};
 ghost use Rattle.guest_model.specs.Bytes.{bytes_at, number_of};
-ghost use Rattle.guest_model.specs.Calls.{argument, array_of, can_read, can_read_array, range_at, used_ranges};
+ghost use Rattle.guest_model.specs.Calls.{argument, array_of, can_read, can_read_array, range_at};
+ghost use Rattle.guest_model.specs.Calls.{used_ranges};
 ghost use Rattle.guest_model.specs.Range.{total_size};
 ghost use Rattle.guest_model.specs.declared.Access.{Access};
 
@@ -69,7 +70,8 @@ pub(crate) fn total_size(guest: &Guest) -> u64
 /// Whether the bytes of every range may be read.
 pub(crate) fn are_readable(guest: &Guest) -> bool
     requires array { can_read_array guest.now.machine ≡ true }
-    ensures { result ≡ list_all (λ r. can_read guest.now.machine r.at r.size) (array_of guest.now.machine) }
+    ensures { result ≡ list_all
+        (λ r. can_read guest.now.machine r.at r.size) (array_of guest.now.machine) }
 {
     for k in 0..guest.reg(12) {
         let range = range_at(guest, k);
@@ -80,7 +82,8 @@ pub(crate) fn are_readable(guest: &Guest) -> bool
     true
 }
 
-/// The ranges that readv uses: the first 8 that have bytes, and no more than [`MOST_READ`] bytes. It takes no memory.
+/// The ranges that readv uses: the first 8 that have bytes, and no more than [`MOST_READ`] bytes.
+/// It takes no memory.
 pub(crate) fn used_ranges(guest: &Guest) -> ArrayVec<Range, MOST_USED>
     requires { can_read_array guest.now.machine ≡ true }
     ensures { result.items ≡ used_ranges (array_of guest.now.machine) }
@@ -100,7 +103,8 @@ pub(crate) fn used_ranges(guest: &Guest) -> ArrayVec<Range, MOST_USED>
 
 /// Whether the bytes of every one of these ranges may be written.
 pub(crate) fn are_writable(space: &Space, ranges: &[Range]) -> bool
-    ensures { result ≡ list_all (λ r. is_range_permitted Access.Write space.now.space.areas r.at r.size)
+    ensures { result ≡ list_all
+        (λ r. is_range_permitted Access.Write space.now.space.areas r.at r.size)
         ranges.now }
 {
     for range in ranges {

@@ -32,8 +32,9 @@ pub enum Served {
 /// Serves the call at which the guest stands.
 ///
 /// # Errors
-/// `Unsupported` exactly where no call has the number in x17; `InputFault` and `OutputFault` exactly where a call of the host of
-/// that kind failed; `NoMemory` where there is no memory for what is read. The guest is as before then.
+/// `Unsupported` exactly where no call has the number in x17; `InputFault` and `OutputFault`
+/// exactly where a call of the host of that kind failed; `NoMemory` where there is no memory for
+/// what is read. The guest is as before then.
 pub fn serve<H: Host>(alloc: Global, guest: &mut Guest, host: &mut H) -> Result<Served, CallFault>
     requires call { effect_of guest.old.machine ≡ Effect.Call }
     requires frames { HasAllFrames guest.old.frames (written_by guest.old.machine) }
@@ -42,7 +43,8 @@ pub fn serve<H: Host>(alloc: Global, guest: &mut Guest, host: &mut H) -> Result<
     ensures answer { AnswersCall (deed_of guest.old.machine) result guest.old guest.new }
     ensures faults { CausedIn source_of (H.faults host.old) (H.faults host.new) result }
 
-    // Where the host tells: the answer is that of the call's row, and the outside changed by exactly that call.
+    // Where the host tells: the answer is that of the call's row, and the outside changed by
+    // exactly that call.
     ensures told { TellsDeed (deed_of guest.old.machine) (H.told host.old) result guest.old guest.new
         (H.told host.new) }
 {

@@ -63,8 +63,8 @@ const ROWS: [Row; 48] = [
     Row(0x0262f3b3, "remu x7,x5,x6"),
 ];
 
-// Words that have no row: zeros, a load of RV64, a shift whose amount has a sixth bit, a branch with an unused
-// function, and ecall with a register.
+// Words that have no row: zeros, a load of RV64, a shift whose amount has a sixth bit, a branch
+// with an unused function, and ecall with a register.
 const ILLEGAL: [u32; 5] = [0x00000000, 0x00003003, 0x03f61593, 0x00002063, 0x000000f3];
 
 // Whether the word has this text, and is the word of its instruction.

@@ -1,5 +1,5 @@
-//! Tests of what reads a file, a word and the record of a call, over public calls: what no clause says, and each
-//! call once.
+//! Tests of what reads a file, a word and the record of a call, over public calls: what no clause
+//! says, and each call once.
 #![tactic(auto)]
 
 #[cfg(test)]

@@ -1,4 +1,5 @@
-// Guests whose calls are encoded by hand, over a host in memory. Each answer is from Linux, or counted by hand.
+// Guests whose calls are encoded by hand, over a host in memory. Each answer is from Linux, or
+// counted by hand.
 ghost use Rattle.std.specs.Prelude.{◌≡◌, ◌<◌};
 
 use call_record::Record;
@@ -21,7 +22,8 @@ const MAP: u32 = 0x40000000;
 enum Answer {
     // A result. Nothing is stored.
     Went(u32),
-    // A result, and the number of bytes that are stored first, from this address on, and the first of them.
+    // A result, and the number of bytes that are stored first, from this address on, and the first
+    // of them.
     Stored(u32, u32, usize, u8),
     // The run ends with this status.
     Exit(u8),
@@ -91,7 +93,8 @@ fn next_call(
     None
 }
 
-// Whether the first write of the record is this many bytes at this address, and the guest has the first of them.
+// Whether the first write of the record is this many bytes at this address, and the guest has the
+// first of them.
 fn has_stored(record: &Record, guest: &Guest, at: u32, size: usize, first: u8) -> bool {
     match record.writes.first() {
         None => false,

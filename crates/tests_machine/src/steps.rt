@@ -49,7 +49,8 @@ fn step_after(guest: &mut Guest, steps: u32) -> Option<Stepped>
     Some(guest.step())
 }
 
-// Words of code, the answer of the step after `steps` others that complete, and pc and a register then.
+// Words of code, the answer of the step after `steps` others that complete, and pc and a register
+// then.
 struct Last {
     code: &'static [u32],
     steps: u32,
@@ -293,8 +294,8 @@ const DIVISIONS: [Division; 6] = [
     },
 ];
 
-// Whether x7 holds its value and every other register what it held before the division: the operands, the stack
-// pointer of a guest without arguments in x2, and 0.
+// Whether x7 holds its value and every other register what it held before the division: the
+// operands, the stack pointer of a guest without arguments in x2, and 0.
 fn has_registers(guest: &Guest, row: &Division, x7: u32) -> bool {
     for n in 0..32 {
         let value = match n {
@@ -311,8 +312,8 @@ fn has_registers(guest: &Guest, row: &Division, x7: u32) -> bool {
     true
 }
 
-// Whether the division gives its result, and changes nothing else but pc. The jump before it, to the next word,
-// ends a block, so that `fresh` is true there.
+// Whether the division gives its result, and changes nothing else but pc. The jump before it, to
+// the next word, ends a block, so that `fresh` is true there.
 fn divides(alloc: Global, row: &Division) -> Result<bool, AllocError> {
     let [first, second] = row.operands.words;
     // jal x0, 4

@@ -1,4 +1,5 @@
-// A small space: a page of code, and behind it two pages of data. It has a frame for each page that can be mapped.
+// A small space: a page of code, and behind it two pages of data. It has a frame for each page that
+// can be mapped.
 ghost use Rattle.std.specs.Prelude.{◌≡◌, IfOk};
 
 use guest_mem::{Area, Denied, Space};

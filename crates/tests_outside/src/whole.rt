@@ -71,8 +71,8 @@ fn writes_whole_or_a_part(rt: HostRuntime) -> Result<(), Fail> {
     Ok(())
 }
 
-// A file, the most bytes that are asked for, the file call that fails, and the answer. Each call moves two
-// bytes: a file of 5 is read by four calls, and the byte past the fourth by three.
+// A file, the most bytes that are asked for, the file call that fails, and the answer. Each call
+// moves two bytes: a file of 5 is read by four calls, and the byte past the fourth by three.
 struct Reading {
     name: &'static str,
     most: usize,

@@ -1,4 +1,5 @@
-// Runs that end. Each count is of the manual's instructions by hand, and each result of a call that of Linux.
+// Runs that end. Each count is of the manual's instructions by hand, and each result of a call that
+// of Linux.
 use crate::outside::{HELLO, READ_TWICE, SERIAL, are, is_ended, outside_of, run};
 use sample_files::{EXIT_7, LOAD_PAST_DATA, one_segment, two_segments};
 use std::alloc::{AllocError, Global};
@@ -89,8 +90,8 @@ fn programs_exit(rt: HostRuntime) -> Result<(), Fail> {
 }
 
 const CALLS: [Row; 6] = [
-    // A write to descriptor 3 is EBADF, of a byte that is not mapped EFAULT, of no bytes 0: the exit
-    // shows the result.
+    // A write to descriptor 3 is EBADF, of a byte that is not mapped EFAULT, of no bytes 0: the
+    // exit shows the result.
     Row {
         code: &[
             0x04000893, 0x00300513, 0x00100613, 0x00000073, 0x05d00893, 0x00000073,
