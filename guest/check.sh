@@ -13,7 +13,7 @@ ulimit -c 0
 
 guest=$(cd "$(dirname "$0")" && pwd)
 top=$(dirname "$guest")
-examples=(hello echo words json quicksort sieve matrix heap library fault untabled)
+examples=(hello echo capitals words json quicksort sieve matrix heap library fault untabled)
 ways=('--by serial')
 folder=$(mktemp -d)
 trap 'rm -rf "$folder"' EXIT
@@ -138,6 +138,7 @@ memory='14813 different numbers\nsquares 1309403758\na block of 3,000,000 bytes:
 library='[   42] [42   ] [00042] [+42] [2a] [052]\n[0.667] [  1.23e+05] [0.0001] [     let] [c]\n31 -12 6.02e+23\n29/February/2000\n'
 library=$library'<one><two><three>\nline of 5: first\nline of 16: last without end\n1.414213562 0.841470985 1.071773463\n'
 library=$library'2000-02-29 12:00:00, later 1, now 1\nout of qsort\na file: no, No such file or directory\n'
+capitals='1: one\n2: two\n3: three\n4: four\n5: five\n6: six\nEVERY INSTRUCTION\nCOUNTS ONCE.\n'
 signal='end signal 11 at 0x????????'
 refusal='superpin: 6 unsupported call 278 at 0x????????'
 
@@ -145,6 +146,7 @@ refusal='superpin: 6 unsupported call 278 at 0x????????'
 check both     hello     0      'end exit 0'  'hello\n'                       ''
 check both     echo      0      'end exit 0'  '\n'                            ''
 check both     echo      0      'end exit 0'  'one two three  four\n'         ''                              one 'two three' '' four
+check both     capitals  6      'end exit 6'  "$capitals"                    'Every instruction\ncounts once.\n' one two three four five six
 check both     words     0      'end exit 0'  ''                              ''
 check both     words     0      'end exit 0'  "$few"                          "$text"
 check both     words     0      'end exit 0'  "$many"                         "$long_text"

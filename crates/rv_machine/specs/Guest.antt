@@ -1,9 +1,14 @@
 -- A guest as callers see it: a machine, and the frames of its memory's pages.
-use Rattle.std.specs.Prelude.{ℕ, List, refl}
+use Rattle.std.specs.Prelude.{◌≡◌, ℕ, ◌-◌, ◌<◌, ◌≤◌, ◌^◌, List, min, Result, Ok, Err, refl}
 use Rattle.std.specs.Coded.{Coded, coded×, code_by}
+use Rattle.elf_load.specs.Image.{ImageFields}
 use Rattle.guest_model.specs.Machine.{Machine, machine_code}
+use Rattle.guest_model.specs.declared.platform.TheConstants.{MOST_STRINGS}
 use Rattle.guest_mem.specs.Frames.{Frames, frames_code}
-use Rattle.guest_mem.specs.Memory.{Memory}
+use Rattle.guest_mem.specs.Memory.{Memory, free_frames}
+use Rattle.rv_machine.specs.Load.{machine_of, strings_size}
+use Rattle.rv_machine.specs.declared.load.LoadFault.{LoadFault}
+use Rattle.rv_machine.specs.declared.load.LoadFault.TheVariants.{ArgsTooLong, NoMemory}
 
 pub record GuestState : Type 0 where
   pub machine : Machine
@@ -19,3 +24,10 @@ with_memory g memory = record { machine = record g.machine { space = memory.spac
 
 abbrev pub guest_code : Coded GuestState
 guest_code = code_by (Machine × Frames) (coded× machine_code frames_code) (λ g. (g.machine, g.frames)) (λ p. record { machine = p.0; frames = p.1 }) (λ _. refl)
+
+-- what loading answers: the guest at position 0 with so many free frames, or the number of bytes of the strings, which
+-- stands still at 2^64 - 1, where they are too many; memory is taken only where they are not
+abbrev pub LoadGives : ImageFields → List (List ℕ) → ℕ → Result GuestState LoadFault → Type 0
+LoadGives image args frames (Ok guest) = (strings_size args ≤ MOST_STRINGS) × (guest.machine ≡ machine_of image args) × (guest.frames ≡ free_frames frames)
+LoadGives image args frames (Err (ArgsTooLong bytes)) = (MOST_STRINGS < strings_size args) × (bytes ≡ min (strings_size args) (2 ^ 64 - 1))
+LoadGives image args frames (Err NoMemory) = strings_size args ≤ MOST_STRINGS

@@ -1,4 +1,4 @@
+pub mod Load
 pub mod Guest
 pub mod Step
-pub mod Load
 pub mod Lending

@@ -1,7 +1,7 @@
 -- The loaded program: the machine at position 0, from an image and the argument strings. Its segments lie where the file
 -- says (System V ABI, chapter 5, "Program Loading"), and its stack holds the strings and what names them (System V ABI,
 -- "Process Initialization"; Linux, getauxval(3)).
-use Rattle.std.specs.Prelude.{◌≡◌, ℕ, ◌+◌, ◌-◌, ◌*◌, ◌/◌, ◌<◌, ◌≤◌, ◌^◌, List, [], ◌∷◌, ◌++◌, length, map, true, false, max, min, replicate, slice_set, sum_by, Result, Ok, Err}
+use Rattle.std.specs.Prelude.{◌≡◌, ℕ, ◌+◌, ◌-◌, ◌*◌, ◌/◌, List, [], ◌∷◌, ◌++◌, length, map, true, false, max, replicate, slice_set, sum_by}
 use Rattle.std.specs.List.{flat_map, fold, range_with_len}
 use Rattle.elf_load.specs.Image.{ImageFields, SegmentFields, is_readable, is_writable, is_executable}
 use Rattle.guest_model.specs.Areas.{rounded_down, rounded_up}
@@ -10,11 +10,7 @@ use Rattle.guest_model.specs.Space.{Space}
 use Rattle.guest_model.specs.Added.{empty_space, with_area}
 use Rattle.guest_model.specs.Machine.{Machine}
 use Rattle.guest_model.specs.declared.Area.{Area}
-use Rattle.guest_model.specs.declared.platform.TheConstants.{MOST_STRINGS, PAGE_SIZE, RANDOM_SIZE, STACK_END, STACK_START}
-use Rattle.guest_mem.specs.Memory.{free_frames}
-use Rattle.rv_machine.specs.Guest.{GuestState}
-use Rattle.rv_machine.specs.declared.load.LoadFault.{LoadFault}
-use Rattle.rv_machine.specs.declared.load.LoadFault.TheVariants.{ArgsTooLong, NoMemory}
+use Rattle.guest_model.specs.declared.platform.TheConstants.{PAGE_SIZE, RANDOM_SIZE, STACK_END, STACK_START}
 
 -- the whole pages that a segment is in, with its permissions
 abbrev pub area_of : SegmentFields → Area
@@ -99,10 +95,3 @@ machine_of image args = record {
   space = with_area (segments_space image.segments) stack_area (stack_pointer_of args) (first_stack image args);
   fresh = true;
 }
-
--- what loading answers: the guest at position 0 with so many free frames, or the number of bytes of the strings, which
--- stands still at 2^64 - 1, where they are too many; memory is taken only where they are not
-abbrev pub LoadGives : ImageFields → List (List ℕ) → ℕ → Result GuestState LoadFault → Type 0
-LoadGives image args frames (Ok guest) = (strings_size args ≤ MOST_STRINGS) × (guest.machine ≡ machine_of image args) × (guest.frames ≡ free_frames frames)
-LoadGives image args frames (Err (ArgsTooLong bytes)) = (MOST_STRINGS < strings_size args) × (bytes ≡ min (strings_size args) (2 ^ 64 - 1))
-LoadGives image args frames (Err NoMemory) = strings_size args ≤ MOST_STRINGS

@@ -2,7 +2,8 @@
 ghost use Rattle.std.specs.Prelude.{◌≡◌, ◌-◌, ◌^◌, ◌≤◌, All, IfOk, map, min, string_bytes};
 ghost use Rattle.elf_load.specs.Image.{IsSegment};
 ghost use Rattle.guest_mem.specs.Memory.{free_frames};
-ghost use Rattle.rv_machine.specs.Load.{LoadGives, area_of, first_break, segments_space};
+ghost use Rattle.rv_machine.specs.Guest.{LoadGives};
+ghost use Rattle.rv_machine.specs.Load.{area_of, first_break, segments_space};
 ghost use Rattle.rv_machine.specs.Load.{strings_size};
 ghost use Rattle.rv_machine.specs.declared.load.LoadFault.TheVariants.{NoMemory};
 

@@ -12,7 +12,7 @@ use Rattle.guest_model.specs.Runs.{RunState, Running, Ended as RunEnded}
 use Rattle.guest_model.specs.Serial.{Position, End, Exit, Signal, Unsupported, TraceItem, run_of, sent_of, trace_of}
 use Rattle.superpin_top.specs.Report.{refusal_line}
 use Rattle.superpin_top.specs.Causes.{CausedBy, is_early, is_of_run}
-use Rattle.superpin_top.specs.Run.{Run}
+use Rattle.superpin_top.specs.Start.{Run}
 use Rattle.superpin_top.specs.Due.{Due, Program, due_ended, due_state, due_program, run_of_program, delivered}
 use Rattle.superpin_top.specs.Outcome.{IsAccepted, IsDecided, IsDue, IsEarly, Refuses, WritesLine, Outcome, IsRefused, CanRise, NoneRose, IsDelivered, IsCaused, AddsFront}
 use Rattle.superpin_top.specs.declared.answer.Answer.{Answer}

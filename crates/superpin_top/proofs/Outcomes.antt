@@ -17,7 +17,8 @@ use Rattle.syscall_layer.specs.Serve.{told_after}
 use Rattle.syscall_layer.specs.declared.fault.RunFault.{RunFault}
 use Rattle.syscall_layer.specs.declared.fault.RunFault.TheVariants as faults
 use Rattle.superpin_top.specs.Causes.{is_early, refusal_of_run}
-use Rattle.superpin_top.specs.Run.{Run, end_by, start_of, RunGives}
+use Rattle.superpin_top.specs.Run.{end_by, RunGives}
+use Rattle.superpin_top.specs.Start.{Run, start_of}
 use Rattle.superpin_top.specs.Report.{count_of, report_of}
 use Rattle.superpin_top.specs.Due.{Due, Program, due_refused, due_run, due_state, due_program, run_of_program, delivered}
 use Rattle.superpin_top.specs.Outcome.{IsDue, Refuses, AttemptGives}

@@ -20,7 +20,8 @@ use Rattle.syscall_layer.specs.Serve.{told_after}
 use Rattle.syscall_layer.specs.declared.fault.RunFault.{RunFault}
 use Rattle.syscall_layer.specs.declared.fault.RunFault.TheVariants as faults
 use Rattle.superpin_top.specs.Report.{count_of, is_in_code}
-use Rattle.superpin_top.specs.Run.{Run, end_by, start_of, IsAt, world_of, StepGives, RunGives}
+use Rattle.superpin_top.specs.Run.{end_by, IsAt, world_of, StepGives, RunGives}
+use Rattle.superpin_top.specs.Start.{Run, start_of}
 use Rattle.superpin_top.specs.declared.run.Turn.TheVariants as turns
 use Rattle.superpin_top.proofs.Steps.{step_with}
 

@@ -13,7 +13,7 @@ use Rattle.guest_model.specs.declared.platform.TheConstants.{MOST_STRINGS}
 use Rattle.rv_machine.specs.Load.{machine_of, strings_size}
 use Rattle.superpin_top.specs.Words.{Request, asked}
 use Rattle.superpin_top.specs.Report.{count_of, report_of, refusal_line}
-use Rattle.superpin_top.specs.Run.{Run, start_of}
+use Rattle.superpin_top.specs.Start.{Run, start_of}
 use Rattle.superpin_top.specs.declared.answer.Answer.{Answer}
 use Rattle.superpin_top.specs.declared.answer.Answer.TheVariants.{Ended, Refused}
 use Rattle.superpin_top.specs.declared.answer.Refusal.{Refusal}

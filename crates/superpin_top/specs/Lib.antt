@@ -1,6 +1,7 @@
 pub mod Answer
 pub mod Words
 pub mod Report
+pub mod Start
 pub mod Due
 pub mod Run
 pub mod Causes

@@ -6,7 +6,8 @@ use Rattle.sp_host.specs.declared.host.Port.TheVariants.{Report}
 use Rattle.guest_model.specs.Call.{World}
 use Rattle.guest_model.specs.Serial.{sent_at}
 use Rattle.syscall_layer.specs.Serve.{PartWritten}
-use Rattle.superpin_top.specs.Run.{Run, LacksMemory, StopsInput, StepBefore}
+use Rattle.superpin_top.specs.Run.{LacksMemory, StopsInput, StepBefore}
+use Rattle.superpin_top.specs.Start.{Run}
 use Rattle.superpin_top.specs.Report.{refusal_line}
 use Rattle.superpin_top.specs.Due.{Due, Program, delivered, due_program, run_of_program}
 use Rattle.superpin_top.specs.Causes.{CausedBy, is_early, is_of_run}

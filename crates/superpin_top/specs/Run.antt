@@ -1,8 +1,7 @@
 -- What a run does to what a host tells.
 use Rattle.std.specs.Prelude.{◌≡◌, ℕ, ◌<◌, List, [], ◌++◌, Option, None, Some, Result, Ok, Err}
 use Rattle.sp_host.specs.Told.{Told}
-use Rattle.elf_load.specs.Image.{ImageFields}
-use Rattle.guest_model.specs.Call.{World, Sent}
+use Rattle.guest_model.specs.Call.{Sent, World}
 use Rattle.guest_model.specs.Calls.{Deed, deed_of}
 use Rattle.guest_model.specs.Effect.{Call, effect_of}
 use Rattle.guest_model.specs.Machine.{Machine}
@@ -15,19 +14,10 @@ use Rattle.syscall_layer.specs.Serve.{TakesMemory, InputPart, PartWritten, told_
 use Rattle.syscall_layer.specs.declared.fault.RunFault.{RunFault}
 use Rattle.syscall_layer.specs.declared.fault.RunFault.TheVariants as faults
 use Rattle.superpin_top.specs.Report.{count_of}
+use Rattle.superpin_top.specs.Start.{Run}
 use Rattle.superpin_top.specs.declared.run.Turn.{Turn}
 use Rattle.superpin_top.specs.declared.run.Turn.TheVariants as turns
 use Rattle.superpin_top.specs.declared.run.Finish.{Finish}
-
--- a run: the image of its program, the position at which it begins, and the most steps
-pub record Run : Type 0 where
-  pub image : ImageFields
-  pub start : Position
-  pub budget : ℕ
-
--- position 0, at which no call went on yet
-abbrev pub start_of : Machine → World → Position
-start_of m w = record { machine = m; world = w; calls = 0 }
 
 abbrev pub end_by : GuestEnd → End
 end_by (ends.Exit status) = Exit status

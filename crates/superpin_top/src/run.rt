@@ -7,7 +7,8 @@ ghost use Rattle.guest_model.specs.Serial.{Position};
 ghost use Rattle.syscall_layer.specs.Serve.{told_after};
 ghost use Rattle.superpin_top.specs.Causes.{CausedBy, refusal_of_run};
 ghost use Rattle.superpin_top.specs.Report.{has_word, is_in_code};
-ghost use Rattle.superpin_top.specs.Run.{StepGives, RunGives, start_of};
+ghost use Rattle.superpin_top.specs.Run.{StepGives, RunGives};
+ghost use Rattle.superpin_top.specs.Start.{start_of};
 
 use elf_load::{Image, Segment};
 use guest_model::platform::MOST_PAGES;

@@ -8,7 +8,8 @@ use Rattle.guest_model.specs.Serial.{sent_of}
 use Rattle.guest_model.specs.declared.platform.TheConstants.{MOST_PAGES}
 use Rattle.rv_machine.specs.Guest.{GuestState}
 use Rattle.superpin_top.specs.Report.{is_in_code}
-use Rattle.superpin_top.specs.Run.{Run, StepGives, RunGives, start_of}
+use Rattle.superpin_top.specs.Run.{StepGives, RunGives}
+use Rattle.superpin_top.specs.Start.{Run, start_of}
 use Rattle.superpin_top.specs.declared.run.Turn.{Turn}
 use Rattle.superpin_top.specs.declared.run.Finish.{Finish}
 use Rattle.syscall_layer.specs.declared.fault.RunFault.{RunFault}

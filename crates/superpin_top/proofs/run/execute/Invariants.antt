@@ -4,7 +4,7 @@ use Rattle.guest_model.specs.Call.{World}
 use Rattle.guest_model.specs.declared.platform.TheConstants.{MOST_PAGES}
 use Rattle.rv_machine.specs.Guest.{GuestState}
 use Rattle.syscall_layer.specs.Serve.{told_after}
-use Rattle.superpin_top.specs.Run.{Run, start_of}
+use Rattle.superpin_top.specs.Start.{Run, start_of}
 use Rattle.superpin_top.proofs.Runs.{SoFar}
 use Rattle.superpin_top.proofs.run.execute.Given as goal
 

@@ -4,7 +4,8 @@ use Rattle.superpin_top.specs.declared.answer.Refusal.{Refusal}
 use Rattle.superpin_top.specs.Causes.{CausedBy}
 use Rattle.superpin_top.specs.Due.{Program, run_of_program}
 use Rattle.superpin_top.specs.Outcome.{Refuses}
-use Rattle.superpin_top.specs.Run.{Run, RunGives}
+use Rattle.superpin_top.specs.Run.{RunGives}
+use Rattle.superpin_top.specs.Start.{Run}
 use Rattle.superpin_top.specs.Top.{IsLate}
 use Rattle.superpin_top.proofs.Outcomes.{begun, finishes, no_room, not_reported, reported, run_refuses}
 use Rattle.superpin_top.proofs.top.run_loaded.Goals as goal
