@@ -1,0 +1,7 @@
+//! The texts that are printed.
+#![tactic(auto)]
+
+mod digits;
+mod view;
+
+pub use view::view_text;
