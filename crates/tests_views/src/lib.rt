@@ -6,4 +6,6 @@ mod files;
 #[cfg(test)]
 mod plans;
 #[cfg(test)]
+mod texts;
+#[cfg(test)]
 mod views;
