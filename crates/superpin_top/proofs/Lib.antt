@@ -1,6 +1,7 @@
 pub mod Steps
 pub mod Runs
 pub mod Plain
+pub mod Accepted
 pub mod Causes
 pub mod Outcomes
 pub mod Ready

@@ -1,5 +1,6 @@
 pub mod Answer
 pub mod Words
+pub mod Accepted
 pub mod Report
 pub mod Start
 pub mod Due
