@@ -12,7 +12,7 @@ use Rattle.std.proofs.lemmas.List.Elements.{All-nil, All-cons, All-head, All-tai
 use Rattle.std.proofs.lemmas.Str.Parse.{IsDigitsTest, IsNumeralModel, numerals_by_value}
 use Rattle.std.proofs.lemmas.Fmt.{decimal-digits_value, decimal_digit, decimal_nonempty, first_decimal, digits_decimal, digits_value-decimal}
 use Rattle.superpin_top.specs.Words.{is_digit, is_number, budget_of, is_plain, is_word, is_form, with_serial, with_budget, asked_with, behind_options, no_options, most_budget, default_budget, asked, Request}
-use Rattle.superpin_top.specs.Accepted.{IsPlain, IsCommand, IsBudget, IsAccepted}
+use Rattle.superpin_top.specs.Accepted.{IsPlain, IsCommand, IsBudget, AreAccepted}
 use Rattle.superpin_top.specs.declared.words.Options.{Options}
 
 abbrev options : Bool → Option ℕ → Options
@@ -259,17 +259,17 @@ behind_number n ws r h = elim (step (options false (Some n)) r ws h) [
 ]
 
 -- behind `run`
-behind_run : (ws : List (List ℕ)) (r : Request) → behind_options no_options ws ≡ Some r → IsAccepted (codes "run" ∷ ws) r
+behind_run : (ws : List (List ℕ)) (r : Request) → behind_options no_options ws ≡ Some r → AreAccepted (codes "run" ∷ ws) r
 behind_run ws r h = elim (step no_options r ws h) [
   | inl e ↦ absurd (false≢true (ends_to no_options ws r e).1)
   | inr (inl s) ↦
       let got = serial_to no_options s.value s.next s.read in
       let front : codes "run" ∷ ws ≡ codes "run" ∷ codes "--by" ∷ codes "serial" ∷ s.rest = ap (λ (xs : List (List ℕ)). codes "run" ∷ xs) (s.is ∙ ap (λ (v : List ℕ). codes "--by" ∷ v ∷ s.rest) got.0) in
       elim (behind_serial s.rest r (ap (λ (p : Options). behind_options p s.rest) got.2 ∙ s.after)) [
-        | inl last ↦ subst (λ (q : Request). IsAccepted (codes "run" ∷ ws) q) last.1 (last.0, inl (front, refl))
+        | inl last ↦ subst (λ (q : Request). AreAccepted (codes "run" ∷ ws) q) last.1 (last.0, inl (front, refl))
         | inr last ↦
             let whole = front ∙ ap (λ (xs : List (List ℕ)). codes "run" ∷ codes "--by" ∷ codes "serial" ∷ xs) last.is in
-            subst (λ (q : Request). IsAccepted (codes "run" ∷ ws) q) last.made (last.command, inr (inl (whole, last.ok)))
+            subst (λ (q : Request). AreAccepted (codes "run" ∷ ws) q) last.made (last.command, inr (inl (whole, last.ok)))
       ]
   | inr (inr s) ↦
       let got = number_to no_options (budget_of s.value) s.next s.read in
@@ -277,17 +277,17 @@ behind_run ws r h = elim (step no_options r ws h) [
       let last = behind_number got.0 s.rest r (ap (λ (p : Options). behind_options p s.rest) got.3 ∙ s.after) in
       let front : codes "run" ∷ ws ≡ codes "run" ∷ codes "--budget" ∷ decimal got.0 ∷ s.rest = ap (λ (xs : List (List ℕ)). codes "run" ∷ xs) (s.is ∙ ap (λ (v : List ℕ). codes "--budget" ∷ v ∷ s.rest) text.1) in
       let whole = front ∙ ap (λ (xs : List (List ℕ)). codes "run" ∷ codes "--budget" ∷ decimal got.0 ∷ xs) last.is in
-      subst (λ (q : Request). IsAccepted (codes "run" ∷ ws) q) last.made (last.command, inr (inr (whole, text.0)))
+      subst (λ (q : Request). AreAccepted (codes "run" ∷ ws) q) last.made (last.command, inr (inr (whole, text.0)))
 ]
 
-accepted_to : (words : List (List ℕ)) (r : Request) → asked words ≡ Some r → IsAccepted words r
+accepted_to : (words : List (List ℕ)) (r : Request) → asked words ≡ Some r → AreAccepted words r
 unfolding asked
 accepted_to [] r h = absurd (cc)
 accepted_to (command ∷ ws) r h =
     let got = if_some (is_word command (codes "run")) (behind_options no_options ws) r h in
-    subst (λ (x : List ℕ). IsAccepted (x ∷ ws) r) (sym (same_word command (codes "run") got.0)) (behind_run ws r got.1)
+    subst (λ (x : List ℕ). AreAccepted (x ∷ ws) r) (sym (same_word command (codes "run") got.0)) (behind_run ws r got.1)
 
-accepted_from : (words : List (List ℕ)) (r : Request) → IsAccepted words r → asked words ≡ Some r
+accepted_from : (words : List (List ℕ)) (r : Request) → AreAccepted words r → asked words ≡ Some r
 unfolding asked
 accepted_from words r h = elim h.1 [
   | inl form ↦ ap asked form.0 ∙ (stops_at None r.strings h.0 ∙ ap (λ (n : ℕ). Some (request n r.strings)) (sym form.1))
@@ -299,5 +299,5 @@ accepted_from words r h = elim h.1 [
       ap asked form.0 ∙ (read ∙ stops_at (Some r.budget) r.strings h.0)
 ]
 
-pub accepted : (words : List (List ℕ)) (r : Request) → (asked words ≡ Some r) ↔ IsAccepted words r
+pub accepted : (words : List (List ℕ)) (r : Request) → (asked words ≡ Some r) ↔ AreAccepted words r
 accepted words r = (accepted_to words r, accepted_from words r)

@@ -29,5 +29,5 @@ abbrev pub IsWithBudgetBefore : List (List ℕ) → Request → Type 0
 IsWithBudgetBefore words r = (words ≡ codes "run" ∷ codes "--budget" ∷ decimal r.budget ∷ codes "--by" ∷ codes "serial" ∷ r.strings) × IsBudget r.budget
 
 -- The words are `run`, then `--by serial`, with `--budget N` before or behind it or left out, then the program's name and arguments.
-abbrev pub IsAccepted : List (List ℕ) → Request → Type 0
-IsAccepted words r = IsCommand r.strings × (IsWithoutBudget words r ⊎ (IsWithBudgetBehind words r ⊎ IsWithBudgetBefore words r))
+abbrev pub AreAccepted : List (List ℕ) → Request → Type 0
+AreAccepted words r = IsCommand r.strings × (IsWithoutBudget words r ⊎ (IsWithBudgetBehind words r ⊎ IsWithBudgetBefore words r))
