@@ -6,10 +6,11 @@ ghost use Rattle.guest_model.specs.Areas.{is_mapped, is_permitted, all_permitted
 ghost use Rattle.guest_model.specs.Areas.{is_range_permitted, holds, wrap};
 ghost use Rattle.guest_model.specs.Bytes.{byte_at, bytes_at, put_bytes};
 ghost use Rattle.guest_model.specs.Bytes.{number_of as number_of_bytes};
-ghost use Rattle.guest_model.specs.Space.{HasBytesOfAreas, read_number, write_number, with_bytes};
+ghost use Rattle.guest_model.specs.Space.{read_number, write_number, with_bytes};
 ghost use Rattle.guest_model.specs.Added.{empty_space, with_area, mapped_pages, area_size};
 ghost use Rattle.guest_model.specs.Maps.{grow_of, grown, growth, map_of, map_area, mapped};
 ghost use Rattle.guest_model.specs.Maps.{unmap_of, without_range, cut_areas};
+ghost use Rattle.guest_model.specs.Valid.{IsSpace};
 ghost use Rattle.page_store.specs.Contents.{count_marked};
 ghost use Rattle.guest_model.specs.Range.{range};
 ghost use Rattle.guest_mem.specs.Frames.{HasAllFrames, TakesFrames, GivesFramesBack};
@@ -96,7 +97,7 @@ impl Space {
     /// The areas, ordered by start and then by end.
     pub fn areas(&self) -> &[Area]
         ensures areas { result.now ≡ self.now.space.areas }
-        ensures bytes { HasBytesOfAreas self.now.space }
+        ensures valid { IsSpace self.now.space }
     {
         &self.areas
     }
