@@ -29,7 +29,8 @@ def fail(text):
 def read_report(path, kind):
     """Gives the matches of the report's lines of this kind, and its end.
 
-    What the program wrote to its standard error may stand before the report, so it is read from its last line up.
+    What the program wrote to its standard error may stand before the report, so it is read from its last line up. Where that
+    was no whole line, the first line of the report stands behind it.
     """
     try:
         with open(path, errors="replace") as file:
@@ -42,7 +43,12 @@ def read_report(path, kind):
     if end is None:
         fail(f"{path}: it does not end with the line of a report, `end exit` or `end signal`")
     found = []
-    while lines and (match := PATTERNS[kind].fullmatch(lines.pop())):
+    while lines:
+        line = lines.pop()
+        match = PATTERNS[kind].fullmatch(line)
+        if match is None:
+            found += [it for it in [re.search(PATTERNS[kind].pattern + "$", line)] if it]
+            break
         found.append(match)
     if not found:
         fail(f"{path}: there is no line `{kind}` before its end; make it by the tool that writes them")

@@ -18,6 +18,10 @@ done
 expect 'the instruction behind the fault' '' \
     "$(grep "^0x$(printf '%x' $(($(awk '$2 == "signal" { print $5 }' "$folder/fault.blocks") + 4))) " "$folder/fault.callgrind")"
 
+{ printf 'said by the program, with no line end'; cat "$folder/quicksort.blocks"; } >"$folder/behind.blocks"
+"$extras/superpin-callgrind" "$folder/quicksort" "$folder/behind.blocks" >"$folder/behind.callgrind"
+expect 'a report behind the error stream' "$(cat "$folder/quicksort.callgrind")" "$(cat "$folder/behind.callgrind")"
+
 if command -v qemu-riscv32 >"$folder/output" &&
     cc -shared -fPIC -O2 -D VERSION=1 -o "$folder/count.so" "$guest/count.c" 2>"$folder/output" &&
     qemu-riscv32 -plugin "$folder/count.so,out=$folder/count" "$folder/quicksort" >"$folder/output" 2>&1; then
