@@ -9,7 +9,7 @@ use Rattle.guest_model.specs.declared.system_call.SystemCall.{SystemCall}
 use Rattle.guest_model.specs.declared.system_call.SystemCall.TheVariants.{Read, Write, Readv, Writev, ClockGettime64}
 use Rattle.guest_model.proofs.Stored.{stored_is_small}
 use Rattle.guest_model.proofs.Used.{few_used, small_used}
-use Rattle.guest_model.specs.Effect.{Effect, Next, Call, Fault, effect_of}
+use Rattle.guest_model.specs.Effect.{Effect, Next, Call, Fault, effect_of, stored_by}
 use Rattle.guest_model.specs.Machine.{Machine}
 use Rattle.guest_model.specs.Range.{Range, range, is_page_of, is_page_among, total_size}
 use Rattle.guest_model.specs.Written.{storable_by, written_by, written_with}
@@ -106,12 +106,17 @@ few_for_call : (framed : List Bool) (m : Machine) (call : Option SystemCall) →
 few_for_call framed m None = none_for framed
 few_for_call framed m (Some call) = (few_by_row framed m call).few
 
-pub few_for_instruction : (f : Frames) (m next : Machine) (stored : List Range) → effect_of m ≡ Next next stored → frames_for_all f.framed stored ≤ 2
+few_for_instruction : (f : Frames) (m next : Machine) (stored : List Range) → effect_of m ≡ Next next stored → frames_for_all f.framed stored ≤ 2
 few_for_instruction f m next stored is =
     elim (stored_is_small m next stored is) [
       | inl none ↦ omega (arith, ap (frames_for_all f.framed) none, no_range f.framed)
       | inr some ↦ omega (arith, ap (frames_for_all f.framed) some.2, few_for_all f.framed (some.0 ∷ []), sum_by-cons (λ (q : Range). q.size) some.0 [], some.1)
     ]
+
+pub few_for_effect : (f : Frames) (m : Machine) (effect : Effect) → effect_of m ≡ effect → frames_for_all f.framed (stored_by effect) ≤ 2
+few_for_effect f m (Next next stored) is = few_for_instruction f m next stored is
+few_for_effect f m Call is = omega (arith, no_range f.framed)
+few_for_effect f m (Fault kind) is = omega (arith, no_range f.framed)
 
 few_by : (f : Frames) (m : Machine) (effect : Effect) → effect_of m ≡ effect → frames_for_all f.framed (written_with m effect) ≤ 31
 unfolding deed_of
@@ -122,7 +127,3 @@ few_by f m (Fault kind) is = none_for f.framed
 pub few_for_step : (f : Frames) (m : Machine) → frames_for_all f.framed (written_by m) ≤ 31
 unfolding written_by
 few_for_step f m = few_by f m (effect_of m) refl
-
-pub written_next : (m next : Machine) (stored : List Range) → effect_of m ≡ Next next stored → written_by m ≡ stored
-unfolding written_by
-written_next m next stored is = ap (written_with m) is

@@ -1,8 +1,7 @@
 //! Laws of the frames that stores take. None of these functions does anything: each carries a law.
 ghost use Rattle.std.specs.Prelude.{ℕ, ◌+◌, ◌*◌, ◌/◌, ◌%◌, ◌≡◌, ◌≤◌, Bool, List};
-ghost use Rattle.guest_model.specs.Effect.{Next, effect_of};
+ghost use Rattle.guest_model.specs.Effect.{effect_of, stored_by};
 ghost use Rattle.guest_model.specs.Machine.{Machine};
-ghost use Rattle.guest_model.specs.Range.{Range};
 ghost use Rattle.guest_model.specs.Written.{written_by};
 ghost use Rattle.guest_mem.specs.Frames.{Frames, HasAllFrames, frames_for};
 
@@ -19,8 +18,7 @@ pub fn frames_of_bytes()
 
 /// Two free frames suffice for every instruction.
 pub fn frames_of_instructions()
-    ensures { (f : Frames) (m next : Machine) (stored : List Range) → effect_of m ≡ Next next stored
-        → 2 ≤ f.free → HasAllFrames f (written_by m) }
+    ensures { (f : Frames) (m : Machine) → 2 ≤ f.free → HasAllFrames f (stored_by (effect_of m)) }
 {}
 
 /// 31 free frames suffice for every step.

@@ -9,23 +9,12 @@ use Rattle.guest_model.specs.Effect.{Effect, Next, Call, Fault, address, effect_
 use Rattle.guest_model.specs.Machine.{Machine, following}
 use Rattle.guest_model.specs.Range.{Range, range}
 use Rattle.guest_model.specs.Space.{Space, read_number, write_number}
-use Rattle.guest_model.specs.Written.{written_by, written_with}
 use Rattle.guest_model.specs.declared.Access.TheVariants.{Execute, Write}
 use Rattle.guest_mem.specs.Frames.{Frames, HasAllFrames, TakesFrames}
 use Rattle.rv_machine.specs.Guest.{GuestState}
 use Rattle.rv_machine.specs.Step.{Gives}
 use Rattle.rv_machine.specs.declared.step.Stepped.TheVariants as stepped
-use Rattle.guest_mem.proofs.Ranges.{has_none, takes_none}
-
--- what an instruction stores is written by its step
-has_stored : (f : Frames) (m : Machine) (effect : Effect) → HasAllFrames f (written_with m effect) → HasAllFrames f (stored_by effect)
-has_stored f m (Next next stored) has = has
-has_stored f m Call has = has_none f
-has_stored f m (Fault kind) has = has_none f
-
-pub has_for_effect : (f : Frames) (m : Machine) (effect : Effect) → effect_of m ≡ effect → HasAllFrames f (written_by m) → HasAllFrames f (stored_by effect)
-unfolding written_by
-has_for_effect f m effect is has = has_stored f m effect (subst (λ (e : Effect). HasAllFrames f (written_with m e)) is has)
+use Rattle.guest_mem.proofs.Ranges.{takes_none}
 
 -- a store that is permitted stores in its range
 pub stored_where_permitted : (m : Machine) (i : Fields) → all_permitted Write m.space.areas (address m i) (mem_size i.op) ≡ true → stored_by (stores m i) ≡ range (address m i) (mem_size i.op) ∷ []

@@ -5,7 +5,6 @@ ghost use Rattle.guest_model.specs.Effect.{immediate, address, target, machine_a
 ghost use Rattle.guest_model.specs.Effect.{passes, writes, computes, jumps, branches, loads};
 ghost use Rattle.guest_model.specs.Effect.{stores};
 ghost use Rattle.guest_model.specs.Machine.{following};
-ghost use Rattle.guest_model.specs.Written.{written_by};
 ghost use Rattle.guest_mem.specs.Frames.{HasAllFrames};
 ghost use Rattle.rv_isa.specs.Kinds.{mem_size};
 ghost use Rattle.rv_machine.specs.Step.{Gives, status_of};
@@ -58,10 +57,10 @@ impl End {
 
 #[tactic(auto, using(guest_mem::proofs::Ranges::takes_none))]
 impl Guest {
-    /// Tries the instruction at pc.
+    /// Tries the instruction at pc. Two free frames always suffice.
     #[tactic(auto, unfolding(guest_model::specs::Effect::effect_of))]
     pub fn step(&mut self) -> Stepped
-        requires { HasAllFrames self.old.frames (written_by self.old.machine) }
+        requires { HasAllFrames self.old.frames (stored_by (effect_of self.old.machine)) }
         ensures { Gives (effect_of self.old.machine) result self.old self.new }
     {
         let Ok(word) = self.memory.fetch(self.pc) else {

@@ -1,6 +1,8 @@
 // Steps of guests whose words were encoded by hand from the manual's formats.
 ghost use Rattle.std.specs.Prelude.{◌≡◌};
 
+use elf_load::load;
+use guest_mem::laws::frames_of_instructions;
 use rv_isa::Op;
 use rv_machine::{End, FaultKind, Guest, Stepped};
 use sample_files::{EXIT_7, LOAD_PAST_DATA, guest_of, one_segment, two_segments};
@@ -349,6 +351,31 @@ fn stores_across_pages(rt: HostRuntime) -> Result<(), Fail> {
     assert!(rt; step_after(&mut guest, 2) == Some(NEXT));
     assert!(rt; guest.reg(7) == 0x12345678 && guest.reg(8) == 0x34 && guest.pc() == 0x1008c);
     assert!(rt; guest.space().written() == 2 && guest.space().free() == 16_382);
+    Ok(())
+}
+
+// addi x17, x0, 63; lui x11, 0x7fe00; lui x12, 3; ecall: a read into three pages of the stack
+const READS_THREE_PAGES: [u32; 4] = [0x03f00893, 0x7fe005b7, 0x00003637, 0x00000073];
+
+// A step of a guest that has two free frames, which suffice.
+fn step_with_two(guest: &mut Guest) -> Option<Stepped> {
+    if guest.space().free() < 2 {
+        return None;
+    }
+    frames_of_instructions();
+    Some(guest.step())
+}
+
+#[test]
+fn two_frames_suffice_at_a_call(rt: HostRuntime) -> Result<(), Fail> {
+    let file = one_segment(rt.alloc(), &READS_THREE_PAGES)?;
+    let image = load(rt.alloc(), &file).ok().ok_or("no image")?;
+    let mut guest = Guest::load(rt.alloc(), &image, &[], 2).ok().ok_or("no guest")?;
+    for _i in 0..3 {
+        assert!(rt; step_with_two(&mut guest) == Some(NEXT));
+    }
+    assert!(rt; step_with_two(&mut guest) == Some(Stepped::Call));
+    assert!(rt; guest.space().free() == 2 && guest.space().written() == 0);
     Ok(())
 }
 
