@@ -1,5 +1,5 @@
 -- A space to which an area is added.
-use Rattle.std.proofs.Common.{◌≡◌, ℕ, zero, suc, ◌+◌, ◌-◌, ◌*◌, ◌/◌, ◌%◌, ◌^◌, ◌<◌, ◌≤◌, ◌&&◌, ◌||◌, true, false, cond, Bool, List, ◌∷◌, length, get_or, take, drop, replicate, refl, sym, ap, ◌∙◌, inl, inr, arith, Some, None}
+use Rattle.std.proofs.Common.{◌≡◌, ℕ, zero, suc, ◌+◌, ◌-◌, ◌*◌, ◌/◌, ◌%◌, ◌^◌, ◌<◌, ◌≤◌, ◌&&◌, ◌||◌, true, false, cond, Bool, List, ◌∷◌, length, get_or, take, drop, replicate, refl, sym, ap, subst, ◌∙◌, inl, inr, arith, Some, None}
 use Rattle.std.specs.Prelude.{nat_le, nat_lt}
 use Rattle.std.specs.List.{All, insert, list_any, position_or_len}
 use Rattle.std.specs.FinMap as map
@@ -16,7 +16,9 @@ use Rattle.guest_model.specs.Added.{comes_before, insert_area, with_area, mapped
 use Rattle.guest_model.specs.declared.platform.TheConstants.{MAPS_START, MOST_PAGES}
 use Rattle.guest_model.specs.declared.Area.{Area}
 use Rattle.guest_model.specs.declared.Access.{Access}
-use Rattle.page_store.specs.Contents.{Contents, is_among, count_marked}
+use Rattle.cow_pages.specs.Contents.{Contents, page_count, ReadAsZeros}
+use Rattle.cow_pages.specs.Frames.{AddUp, Frames}
+use Rattle.frame_pool.specs.Bytes.{is_among}
 use Rattle.guest_mem.specs.Mapped.{of_areas, space_over}
 use Rattle.guest_mem.specs.Memory.{IsApart}
 use Rattle.guest_mem.specs.Sound.{IsSound, IsOnOneSide, HasRights, heap_ends, is_unused, allows, no_rights}
@@ -133,6 +135,24 @@ rights_added access x xs ys rights new r page whole apart permitted table lt giv
 among_held : (x : Area) (at n q : ℕ) → x.start ≤ at → at + n ≤ x.end → is_among at n q ≡ true → holds x q ≡ true
 among_held x at n q from within h = grind (arith, nat_tests)
 
+pages_end : (at n e : ℕ) → at + n ≤ e → e % 4096 ≡ 0 → at / 4096 + (at % 4096 % 4096 + n + 4095) / 4096 ≤ e / 4096
+pages_end at n e le whole = omega arith
+
+-- the pages of bytes that are given within an area are pages of the area
+held_page : (x : Area) (at n q : ℕ) → IsWhole x → IsWithin x at n → is_among (at / 4096) (page_count (at % 4096) n) (q / 4096) ≡ true → holds x q ≡ true
+held_page x at zero q whole inside h = absurd (grind (arith, nat_tests))
+held_page x at (suc n) q whole inside h =
+    let among : (at / 4096 ≤ q / 4096) × (q / 4096 < at / 4096 + (at % 4096 % 4096 + suc n + 4095) / 4096) = grind (arith, nat_tests) in
+    let ends = pages_end at (suc n) x.end inside.within whole.end in
+    let from : x.start ≤ q = omega (arith, whole.start, inside.from, among.0) in
+    let to : q < x.end = omega (arith, ends, among.1) in
+    grind (arith, nat_tests)
+
+-- no area holds them yet, so they read as zeros
+pub zeros_before : (x : Area) (xs : List Area) (all : List ℕ) (at n : ℕ) → IsWhole x → IsApart x xs → IsWithin x at n → ((a : ℕ) → is_mapped xs a ≡ false → get_or all a 0 ≡ 0)
+    → ReadAsZeros all (at / 4096) (page_count (at % 4096) n)
+zeros_before x xs all at n whole apart inside rest = λ a h. rest a (apart a (held_page x at n a whole inside h))
+
 or_none : (h m : Bool) → h ≡ false → m ≡ false → (h || m) ≡ false
 or_none true m e f = e
 or_none false m e f = f
@@ -141,7 +161,7 @@ not_among : (t h : Bool) (v w : ℕ) → (t ≡ true → h ≡ true) → h ≡ f
 not_among true h v w there none = absurd (true≢false (sym (there refl) ∙ none))
 not_among false h v w there none = refl
 
--- a page that is new was not touched
+-- a page that is new was not written
 framed_still : (t h m : Bool) → (h ≡ true → t ≡ false) → (t && m) ≡ (t && (h || m))
 framed_still true true m f = absurd (true≢false (f refl))
 framed_still true false m f = refl
@@ -149,40 +169,42 @@ framed_still false h m f = refl
 
 pub sound_added : (x : Area) (xs ys : List Area) (rights new_rights : List Rights) (old new : Contents) (brk next new_brk new_next at : ℕ) (given : List ℕ) (r : Rights)
     → IsSound xs rights old brk next → IsAdded x xs ys brk next new_brk new_next → IsWithin x at (length given)
-    → ((page : ℕ) → holds x (4096 * page) ≡ true → get_or old.touched page false ≡ false)
+    → ((page : ℕ) → holds x (4096 * page) ≡ true → get_or old.frames.written page false ≡ false)
     → ((q : ℕ) → get_or new.flat_bytes q 0 ≡ cond (is_among at (length given) q) (get_or given (q - at) 0) (get_or old.flat_bytes q 0))
-    → length new.flat_bytes ≡ 2 ^ 32 → new.framed ≡ old.framed → new.touched ≡ old.touched → new.free ≡ old.free → new.frames ≡ old.frames
+    → length new.flat_bytes ≡ 2 ^ 32 → new.frames ≡ old.frames
     → ((access : Access) → allows access r ≡ permits access x)
     → length new_rights ≡ length rights
     → ((page : ℕ) → get_or new_rights page no_rights ≡ cond (is_page_in x page) r (get_or rights page no_rights))
     → IsSound ys new_rights new new_brk new_next
-sound_added x xs ys rights new_rights old new brk next new_brk new_next at given r sound added inside untouched bytes len framed touched free frames gives rights_len each = record {
-  whole = added.all_whole;
-  adds_up = let before = sound.adds_up in omega (arith, ap count_marked framed, free, frames, before);
-  few_pages = added.few_pages;
-  table = record {
-    len = rights_len ∙ sound.table.len;
-    each = λ access page lt. rights_added access x xs ys rights new_rights r page added.whole added.apart (added.permitted access (4096 * page)) sound.table lt gives (each page);
-  };
-  pages_len = len;
-  rest_zero = λ q none.
-      let parts = or_parts (holds x q) (is_mapped xs q) (sym (added.mapped q) ∙ none) in
-      bytes q ∙ not_among (is_among at (length given) q) (holds x q) _ _ (among_held x at (length given) q inside.from inside.within) parts.0 ∙ sound.rest_zero q parts.1;
-  framed_len = ap length framed ∙ sound.framed_len;
-  touched_len = ap length touched ∙ sound.touched_len;
-  framed_where = λ page lt.
-      ap (λ l. get_or l page false) framed
-      ∙ sound.framed_where page lt
-      ∙ framed_still (get_or old.touched page false) (holds x (4096 * page)) (is_mapped xs (4096 * page)) (untouched page)
-      ∙ ap (λ l. get_or l page false && (holds x (4096 * page) || is_mapped xs (4096 * page))) (sym touched)
-      ∙ ap (λ t. get_or new.touched page false && t) (sym (added.mapped (4096 * page)));
-  sides = added.sides;
-  heap_bound = added.heap_bound;
-  heap = added.heap;
-  next = added.next;
-  unused_free = λ a h. added.mapped a ∙ or_none (holds x a) (is_mapped xs a) (added.unused a h).1 (sound.unused_free a (added.unused a h).0);
-  unused_untouched = λ page h. ap (λ l. get_or l page false) touched ∙ sound.unused_untouched page (added.unused (4096 * page) h).0;
-}
+sound_added x xs ys rights new_rights old new brk next new_brk new_next at given r sound added inside unwritten bytes len frames gives rights_len each =
+    let framed = ap (λ (f : Frames). f.framed) frames in
+    let written = ap (λ (f : Frames). f.written) frames in record {
+      whole = added.all_whole;
+      adds_up = subst AddUp (sym frames) sound.adds_up;
+      few_pages = added.few_pages;
+      table = record {
+        len = rights_len ∙ sound.table.len;
+        each = λ access page lt. rights_added access x xs ys rights new_rights r page added.whole added.apart (added.permitted access (4096 * page)) sound.table lt gives (each page);
+      };
+      pages_len = len;
+      rest_zero = λ q none.
+          let parts = or_parts (holds x q) (is_mapped xs q) (sym (added.mapped q) ∙ none) in
+          bytes q ∙ not_among (is_among at (length given) q) (holds x q) _ _ (among_held x at (length given) q inside.from inside.within) parts.0 ∙ sound.rest_zero q parts.1;
+      framed_len = ap length framed ∙ sound.framed_len;
+      written_len = ap length written ∙ sound.written_len;
+      framed_where = λ page lt.
+          ap (λ l. get_or l page false) framed
+          ∙ sound.framed_where page lt
+          ∙ framed_still (get_or old.frames.written page false) (holds x (4096 * page)) (is_mapped xs (4096 * page)) (unwritten page)
+          ∙ ap (λ l. get_or l page false && (holds x (4096 * page) || is_mapped xs (4096 * page))) (sym written)
+          ∙ ap (λ t. get_or new.frames.written page false && t) (sym (added.mapped (4096 * page)));
+      sides = added.sides;
+      heap_bound = added.heap_bound;
+      heap = added.heap;
+      next = added.next;
+      unused_free = λ a h. added.mapped a ∙ or_none (holds x a) (is_mapped xs a) (added.unused a h).1 (sound.unused_free a (added.unused a h).0);
+      unused_unwritten = λ page h. ap (λ l. get_or l page false) written ∙ sound.unused_unwritten page (added.unused (4096 * page) h).0;
+    }
 
 area_bytes : (t h m : Bool) (v w z : ℕ) → (t ≡ true → h ≡ true) → (h ≡ true → w ≡ z) → cond (h || m) (Some (cond t v w)) None ≡ cond t (Some v) (cond h (Some z) (cond m (Some w) None))
 area_bytes true true m v w z there same = refl

@@ -8,7 +8,8 @@ use Rattle.std.proofs.lemmas.List.Sums.{sum_by-cons}
 use Rattle.guest_model.specs.Areas.{is_mapped, holds, wrap}
 use Rattle.guest_model.specs.Added.{mapped_pages, area_size}
 use Rattle.guest_model.specs.declared.Area.{Area}
-use Rattle.page_store.specs.Contents.{Contents, count_marked}
+use Rattle.cow_pages.specs.Contents.{Contents}
+use Rattle.cow_pages.specs.Marks.{count_marked}
 use Rattle.guest_mem.specs.Frames.{Frames, HasAllFrames, frames_for, marked_for}
 use Rattle.guest_mem.specs.Sound.{IsSound}
 use Rattle.guest_mem.specs.declared.rights.Rights.{Rights}
@@ -124,21 +125,21 @@ frames_fit areas framed a n free frames whole few mapped adds_up there all =
     omega (arith, marked, count_marked-marked_for framed a n, adds_up, few, all)
 
 -- a page with a frame is mapped
-pub framed_mapped : (areas : List Area) (framed touched : List Bool) → length framed ≡ 2 ^ 20
-    → ((page : ℕ) → page < 2 ^ 20 → get_or framed page false ≡ (get_or touched page false && is_mapped areas (4096 * page)))
+pub framed_mapped : (areas : List Area) (framed written : List Bool) → length framed ≡ 2 ^ 20
+    → ((page : ℕ) → page < 2 ^ 20 → get_or framed page false ≡ (get_or written page false && is_mapped areas (4096 * page)))
     → (page : ℕ) → get_or framed page false ≡ true → is_mapped areas (4096 * page) ≡ true
-framed_mapped areas framed touched len told page h =
+framed_mapped areas framed written len told page h =
     elim (cases_lt page (2 ^ 20)) [
-      | inl lt ↦ (and_parts (get_or touched page false) (is_mapped areas (4096 * page)) (sym (told page lt) ∙ h)).1
+      | inl lt ↦ (and_parts (get_or written page false) (is_mapped areas (4096 * page)) (sym (told page lt) ∙ h)).1
       | inr ge ↦ absurd (true≢false (sym h ∙ get_or_past framed page false (omega (arith, ge, len))))
     ]
 
 -- a store in areas has its frames
 pub enough_frames : (areas : List Area) (rights : List Rights) (pages : Contents) (brk next : ℕ) (f : Frames) (a n : ℕ) → IsSound areas rights pages brk next
-    → record { framed = pages.framed; written = pages.touched; free = pages.free; count = pages.frames } ≡ f
-    → ((i : ℕ) → i < n → is_mapped areas (wrap (a + i)) ≡ true) → HasAllFrames f (range a n ∷ []) → frames_for pages.framed a n ≤ pages.free
+    → pages.frames ≡ f
+    → ((i : ℕ) → i < n → is_mapped areas (wrap (a + i)) ≡ true) → HasAllFrames f (range a n ∷ []) → frames_for pages.frames.framed a n ≤ pages.frames.free
 enough_frames areas rights pages brk next f a n sound e mapped (inr suffice) =
     omega (arith, suffice, ap (λ (g : Frames). g.free) e, ap (λ (g : Frames). frames_for g.framed a n) e, frames_for_all-one f.framed a n)
 enough_frames areas rights pages brk next f a n sound e mapped (inl all) =
-    frames_fit areas pages.framed a n pages.free pages.frames sound.whole sound.few_pages
-    (framed_mapped areas pages.framed pages.touched sound.framed_len sound.framed_where) sound.adds_up mapped (omega (arith, all, ap (λ (g : Frames). g.count) e))
+    frames_fit areas pages.frames.framed a n pages.frames.free pages.frames.count sound.whole sound.few_pages
+    (framed_mapped areas pages.frames.framed pages.frames.written sound.framed_len sound.framed_where) sound.adds_up mapped (omega (arith, all, ap (λ (g : Frames). g.count) e))

@@ -16,7 +16,7 @@ use Rattle.guest_model.specs.Space.{Space}
 use Rattle.guest_model.specs.declared.Access.{Access}
 use Rattle.guest_model.specs.declared.Access.TheVariants.{Read, Write, Execute}
 use Rattle.guest_model.specs.declared.Area.{Area}
-use Rattle.page_store.specs.Contents.{Contents}
+use Rattle.cow_pages.specs.Contents.{Contents}
 use Rattle.guest_mem.specs.Mapped.{space_over}
 use Rattle.guest_mem.specs.Sound.{IsSound, IsOnOneSide, is_unused}
 use Rattle.guest_model.specs.Valid.{IsWhole}
@@ -73,9 +73,9 @@ more_pages s m e f g le lf = omega arith
 pub some_low : (xs : List Area) (rights : List Rights) (pages : Contents) (brk next n : ℕ) → IsSound xs rights pages brk next → IsAfterLastMatch ends_low xs n → 1 ≤ n
 some_low xs rights pages brk next n sound last = some_behind xs n last (heap_low (rounded_up brk) xs sound.heap (rounded_bound brk sound.heap_bound))
 
-pub gained_untouched : (x : Area) (xs : List Area) (rights : List Rights) (pages : Contents) (brk next to : ℕ) → IsSound xs rights pages brk next → x.end ≡ rounded_up brk → to ≤ MAPS_START
-    → (page : ℕ) → holds (gained x (rounded_up to)) (4096 * page) ≡ true → get_or pages.touched page false ≡ false
-gained_untouched x xs rights pages brk next to sound ends high page h = sound.unused_untouched page (gained_unused x brk next to (4096 * page) ends (rounded_bound to high) h)
+pub gained_unwritten : (x : Area) (xs : List Area) (rights : List Rights) (pages : Contents) (brk next to : ℕ) → IsSound xs rights pages brk next → x.end ≡ rounded_up brk → to ≤ MAPS_START
+    → (page : ℕ) → holds (gained x (rounded_up to)) (4096 * page) ≡ true → get_or pages.frames.written page false ≡ false
+gained_unwritten x xs rights pages brk next to sound ends high page h = sound.unused_unwritten page (gained_unused x brk next to (4096 * page) ends (rounded_bound to high) h)
 
 -- where the heap stands: its place is before n
 pub record IsHeapAt (x : Area) (xs : List Area) (n : ℕ) (brk : ℕ) : Type 0 where

@@ -1,5 +1,5 @@
 -- What a map made of areas holds, before and after bytes are put.
-use Rattle.std.proofs.Common.{◌≡◌, ℕ, zero, suc, ◌+◌, ◌-◌, ◌^◌, ◌<◌, ◌≤◌, ◌==◌, ◌||◌, true, false, cond, Bool, List, [], ◌∷◌, refl, sym, ap, ◌∙◌, inl, inr, arith, Some, None, Option, length, get_or}
+use Rattle.std.proofs.Common.{◌≡◌, ℕ, zero, suc, ◌+◌, ◌-◌, ◌*◌, ◌/◌, ◌%◌, ◌^◌, ◌<◌, ◌≤◌, ◌==◌, ◌||◌, true, false, cond, Bool, List, [], ◌∷◌, refl, sym, ap, ◌∙◌, inl, inr, arith, Some, None, Option, length, get_or}
 use Rattle.std.specs.Option.{unwrap_or}
 use Rattle.std.specs.Prelude.{is_some}
 use Rattle.std.specs.Ordering.{nat_cmp}
@@ -12,7 +12,11 @@ use Rattle.guest_model.specs.Bytes.{Bytes, byte_at, put_bytes}
 use Rattle.guest_model.specs.declared.Area.{Area}
 use Rattle.guest_model.specs.Space.{Space, with_bytes, HasBytesOfAreas}
 use Rattle.guest_mem.specs.Mapped.{of_areas, space_over, with_range}
-use Rattle.page_store.specs.Contents.{is_among}
+use Rattle.frame_pool.specs.Bytes.{is_among}
+
+-- an address, by its page and where it stands in the page
+pub in_page : (a : ℕ) → 4096 * (a / 4096) + a % 4096 ≡ a
+in_page a = omega arith
 
 one_more : (a n q : ℕ) (x y z : Option ℕ) → (q ≡ a + n → x ≡ y) → cond (q == (a + n)) x (cond (is_among a n q) y z) ≡ cond (is_among a (suc n) q) y z
 one_more a n q x y z same =

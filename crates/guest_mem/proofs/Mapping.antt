@@ -8,7 +8,8 @@ use Rattle.guest_model.specs.Maps.{map_area, mapped}
 use Rattle.guest_model.specs.declared.platform.TheConstants.{MAPS_START, MAPS_END}
 use Rattle.guest_model.specs.Space.{Space}
 use Rattle.guest_model.specs.declared.Area.{Area}
-use Rattle.page_store.specs.Contents.{Contents, is_among}
+use Rattle.cow_pages.specs.Contents.{Contents}
+use Rattle.frame_pool.specs.Bytes.{is_among}
 use Rattle.guest_mem.specs.Mapped.{space_over}
 use Rattle.guest_mem.specs.Sound.{IsSound, IsOnOneSide, is_unused}
 use Rattle.guest_model.specs.Valid.{IsWhole}
@@ -59,9 +60,9 @@ map_added x xs rights pages brk next i sound new =
       unused = λ a h. later_unused x brk next a start (omega arith) next_low h;
     }
 
-pub map_untouched : (x : Area) (xs : List Area) (rights : List Rights) (pages : Contents) (brk next : ℕ) → IsSound xs rights pages brk next → IsNewMap x xs next
-    → (page : ℕ) → holds x (4096 * page) ≡ true → get_or pages.touched page false ≡ false
-map_untouched x xs rights pages brk next sound new page h = let start = new.start in sound.unused_untouched page (map_unused x brk next (4096 * page) (omega arith) new.within h)
+pub map_unwritten : (x : Area) (xs : List Area) (rights : List Rights) (pages : Contents) (brk next : ℕ) → IsSound xs rights pages brk next → IsNewMap x xs next
+    → (page : ℕ) → holds x (4096 * page) ≡ true → get_or pages.frames.written page false ≡ false
+map_unwritten x xs rights pages brk next sound new page h = let start = new.start in sound.unused_unwritten page (map_unused x brk next (4096 * page) (omega arith) new.within h)
 
 pub space_mapped : (s : Space) (xs : List Area) (all : List ℕ) (brk next i size prot : ℕ) → space_over xs all brk next ≡ s → i ≡ position_or_len (comes_before (map_area next size prot)) xs
     → ((a : ℕ) → is_mapped xs a ≡ false → get_or all a 0 ≡ 0) → IsAdded (map_area next size prot) xs (insert xs i (map_area next size prot)) brk next brk (next + size) → 0 < size

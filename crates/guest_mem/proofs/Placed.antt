@@ -8,7 +8,7 @@ use Rattle.guest_model.specs.Areas.{holds, rounded_up}
 use Rattle.guest_model.specs.Maps.{ends_low}
 use Rattle.guest_model.specs.declared.platform.TheConstants.{MAPS_START, MAPS_END}
 use Rattle.guest_model.specs.declared.Area.{Area}
-use Rattle.page_store.specs.Contents.{Contents}
+use Rattle.cow_pages.specs.Contents.{Contents}
 use Rattle.guest_mem.specs.Memory.{IsApart}
 use Rattle.guest_mem.specs.Sound.{IsSound, IsOnOneSide, is_unused}
 use Rattle.guest_model.specs.Valid.{IsWhole}

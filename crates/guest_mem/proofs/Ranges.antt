@@ -1,11 +1,11 @@
 -- Stores in lists of ranges: in one range, and in one more.
-use Rattle.std.proofs.Common.{◌≡◌, ℕ, ◌+◌, ◌<◌, ◌≤◌, ◌||◌, inl, inr, Bool, true, false, List, [], ◌∷◌, ◌++◌, length, get_or, refl, sym, ap, ◌∙◌, arith}
+use Rattle.std.proofs.Common.{◌≡◌, ℕ, ◌+◌, ◌<◌, ◌||◌, inl, inr, Bool, true, false, List, [], ◌∷◌, ◌++◌, length, get_or, refl, sym, ap, ◌∙◌, arith}
 use Rattle.std.specs.List.{count_by, range_with_len}
 use Rattle.std.proofs.lemmas.List.{ext_get_or}
 use Rattle.std.proofs.lemmas.List.Folds.{list_any-append}
 use Rattle.std.proofs.lemmas.List.FromFn.{get_or-map-range_with_len, length-map-range_with_len}
 use Rattle.guest_model.specs.Range.{Range, range, is_page_of, is_page_among}
-use Rattle.page_store.specs.Contents.{count_marked}
+use Rattle.cow_pages.specs.Marks.{count_marked}
 use Rattle.guest_mem.proofs.Few.{no_range}
 use Rattle.guest_mem.proofs.Taken.{count_map, count_or, counted, is_page_of-none, marked_for-none, turned}
 use Rattle.guest_mem.specs.Frames.{Frames, frames_for, frames_for_all, marked_for, marked_for_all, HasAllFrames, TakesFrames}

@@ -9,8 +9,8 @@ use Rattle.std.proofs.lemmas.List.{ext_get_or, set_past}
 use Rattle.std.proofs.lemmas.List.FromFn.{fill_by_all, get_or-map-range_with_len, length-map-range_with_len}
 use Rattle.std.proofs.lemmas.List.Sums.{sum_by-cons}
 use Rattle.guest_model.specs.Areas.{wrap}
-use Rattle.page_store.specs.Contents.{count_marked}
-use Rattle.page_store.proofs.Marks.{count_marked-set, set_marked}
+use Rattle.cow_pages.specs.Marks.{count_marked}
+use Rattle.cow_pages.proofs.MarkLists.{count_marked-set, set_marked}
 use Rattle.guest_mem.specs.Frames.{frames_for, marked_for}
 use Rattle.guest_model.specs.Range.{is_page_of}
 

@@ -19,7 +19,8 @@ use Rattle.guest_model.specs.Space.{Space}
 use Rattle.guest_model.specs.declared.Access.{Access}
 use Rattle.guest_model.specs.declared.Access.TheVariants.{Read, Write, Execute}
 use Rattle.guest_model.specs.declared.Area.{Area}
-use Rattle.page_store.specs.Contents.{Contents, count_marked}
+use Rattle.cow_pages.specs.Contents.{Contents}
+use Rattle.cow_pages.specs.Frames.{AddUp}
 use Rattle.guest_mem.specs.Frames.{marked_in}
 use Rattle.guest_mem.specs.Mapped.{of_areas, space_over}
 use Rattle.guest_mem.specs.Sound.{IsSound, IsOnOneSide, allows, no_rights, heap_ends, is_cut}
@@ -271,11 +272,11 @@ and_unmapped false m e = refl
 
 pub sound_cut : (xs : List Area) (rights new_rights : List Rights) (old new : Contents) (brk next from to : ℕ) → IsSound xs rights old brk next → IsMapRange from to
     → ((q : ℕ) → get_or new.flat_bytes q 0 ≡ cond (is_cut from to xs q) 0 (get_or old.flat_bytes q 0)) → length new.flat_bytes ≡ 2 ^ 32
-    → ((page : ℕ) → get_or new.framed page false ≡ (not (is_cut from to xs (4096 * page)) && get_or old.framed page false)) → length new.framed ≡ length old.framed
-    → new.touched ≡ old.touched → (count_marked old.framed + old.free ≡ old.frames → count_marked new.framed + new.free ≡ new.frames)
+    → ((page : ℕ) → get_or new.frames.framed page false ≡ (not (is_cut from to xs (4096 * page)) && get_or old.frames.framed page false)) → length new.frames.framed ≡ length old.frames.framed
+    → new.frames.written ≡ old.frames.written → (AddUp old.frames → AddUp new.frames)
     → ((page : ℕ) → get_or new_rights page no_rights ≡ cond (is_cut from to xs (4096 * page)) no_rights (get_or rights page no_rights)) → length new_rights ≡ 2 ^ 20
     → IsSound (cut_areas from to xs) new_rights new brk next
-sound_cut xs rights new_rights old new brk next from to sound range bytes len framed framed_len touched adds_up each table_len =
+sound_cut xs rights new_rights old new brk next from to sound range bytes len framed framed_len written adds_up each table_len =
     let low = range.low in
     let le = range.order in
     record {
@@ -291,18 +292,18 @@ sound_cut xs rights new_rights old new brk next from to sound range bytes len fr
       pages_len = len;
       rest_zero = λ q none. outside (is_in_range from to q) (is_mapped xs q) _ _ (sym (is_mapped-cut from to q xs le) ∙ none) (bytes q) (sound.rest_zero q);
       framed_len = framed_len ∙ sound.framed_len;
-      touched_len = ap length touched ∙ sound.touched_len;
+      written_len = ap length written ∙ sound.written_len;
       framed_where = λ page lt.
           framed page
-          ∙ still_framed (is_in_range from to (4096 * page)) (is_mapped xs (4096 * page)) (get_or old.touched page false) (get_or old.framed page false) (sound.framed_where page lt)
-          ∙ ap (λ t. get_or old.touched page false && t) (sym (is_mapped-cut from to (4096 * page) xs le))
-          ∙ ap (λ l. get_or l page false && is_mapped (cut_areas from to xs) (4096 * page)) (sym touched);
+          ∙ still_framed (is_in_range from to (4096 * page)) (is_mapped xs (4096 * page)) (get_or old.frames.written page false) (get_or old.frames.framed page false) (sound.framed_where page lt)
+          ∙ ap (λ t. get_or old.frames.written page false && t) (sym (is_mapped-cut from to (4096 * page) xs le))
+          ∙ ap (λ l. get_or l page false && is_mapped (cut_areas from to xs) (4096 * page)) (sym written);
       sides = sides_cut from to xs range sound.sides;
       heap_bound = sound.heap_bound;
       heap = heap_cut (rounded_up brk) from to xs low le (rounded_bound brk sound.heap_bound) sound.sides sound.heap;
       next = sound.next;
       unused_free = λ a h. is_mapped-cut from to a xs le ∙ and_unmapped (not (is_in_range from to a)) (is_mapped xs a) (sound.unused_free a h);
-      unused_untouched = λ page h. ap (λ l. get_or l page false) touched ∙ sound.unused_untouched page h;
+      unused_unwritten = λ page h. ap (λ l. get_or l page false) written ∙ sound.unused_unwritten page h;
     }
 
 get-retained : (m : Bytes) (p : ℕ → Bool) (q : ℕ) → map.get (map.retain_keys m p) q ≡ cond (p q) (map.get m q) None
@@ -345,13 +346,13 @@ twice f true false e = and_none_of f ∙ sym e
 twice f false m e = ap (λ b. b && m) e ∙ sym e
 
 -- each frame is that of a mapped page
-pub framed_in : (areas : List Area) (rights : List Rights) (pages : Contents) (brk next : ℕ) → IsSound areas rights pages brk next → marked_in areas pages.framed ≡ pages.framed
+pub framed_in : (areas : List Area) (rights : List Rights) (pages : Contents) (brk next : ℕ) → IsSound areas rights pages brk next → marked_in areas pages.frames.framed ≡ pages.frames.framed
 framed_in areas rights pages brk next sound =
-    ext_get_or false _ _ (length-marked_in areas pages.framed) (λ page lt.
-    let within : page < length pages.framed = omega (arith, lt, length-marked_in areas pages.framed) in
+    ext_get_or false _ _ (length-marked_in areas pages.frames.framed) (λ page lt.
+    let within : page < length pages.frames.framed = omega (arith, lt, length-marked_in areas pages.frames.framed) in
     let len = sound.framed_len in
-    get_or-marked_in areas pages.framed page within
-    ∙ twice (get_or pages.framed page false) (get_or pages.touched page false) (is_mapped areas (4096 * page)) (sound.framed_where page (omega arith)))
+    get_or-marked_in areas pages.frames.framed page within
+    ∙ twice (get_or pages.frames.framed page false) (get_or pages.frames.written page false) (is_mapped areas (4096 * page)) (sound.framed_where page (omega arith)))
 
 kept_mark : (r m t f : Bool) → f ≡ (t && m) → (not (r && m) && f) ≡ (f && (not r && m))
 kept_mark true true t f e = sym (and_none_of f)
@@ -359,13 +360,13 @@ kept_mark true false t f e = sym (and_none_of f ∙ sym (e ∙ and_none_of t))
 kept_mark false m t f e = sym (twice f t m e)
 
 pub framed_cut : (xs : List Area) (rights : List Rights) (old new : Contents) (brk next from to : ℕ) → IsSound xs rights old brk next → from ≤ to
-    → ((page : ℕ) → get_or new.framed page false ≡ (not (is_cut from to xs (4096 * page)) && get_or old.framed page false)) → length new.framed ≡ length old.framed
-    → new.framed ≡ marked_in (cut_areas from to xs) old.framed
+    → ((page : ℕ) → get_or new.frames.framed page false ≡ (not (is_cut from to xs (4096 * page)) && get_or old.frames.framed page false)) → length new.frames.framed ≡ length old.frames.framed
+    → new.frames.framed ≡ marked_in (cut_areas from to xs) old.frames.framed
 framed_cut xs rights old new brk next from to sound le framed framed_len =
-    ext_get_or false _ _ (framed_len ∙ sym (length-marked_in (cut_areas from to xs) old.framed)) (λ page lt.
+    ext_get_or false _ _ (framed_len ∙ sym (length-marked_in (cut_areas from to xs) old.frames.framed)) (λ page lt.
     let len = sound.framed_len in
-    let within : page < length old.framed = omega (arith, lt, framed_len) in
+    let within : page < length old.frames.framed = omega (arith, lt, framed_len) in
     framed page
-    ∙ kept_mark (is_in_range from to (4096 * page)) (is_mapped xs (4096 * page)) (get_or old.touched page false) (get_or old.framed page false) (sound.framed_where page (omega arith))
-    ∙ ap (λ t. get_or old.framed page false && t) (sym (is_mapped-cut from to (4096 * page) xs le))
-    ∙ sym (get_or-marked_in (cut_areas from to xs) old.framed page within))
+    ∙ kept_mark (is_in_range from to (4096 * page)) (is_mapped xs (4096 * page)) (get_or old.frames.written page false) (get_or old.frames.framed page false) (sound.framed_where page (omega arith))
+    ∙ ap (λ t. get_or old.frames.framed page false && t) (sym (is_mapped-cut from to (4096 * page) xs le))
+    ∙ sym (get_or-marked_in (cut_areas from to xs) old.frames.framed page within))

@@ -6,7 +6,9 @@ use Rattle.std.proofs.lemmas.Bool.{cases_eq, cases_Bool, true≢false}
 use Rattle.std.proofs.lemmas.Bool.Decides.{nat_tests}
 use Rattle.guest_model.specs.Areas.{is_mapped, wrap}
 use Rattle.guest_model.specs.declared.Area.{Area}
-use Rattle.page_store.specs.Contents.{Contents, is_among, count_marked}
+use Rattle.cow_pages.specs.Contents.{Contents}
+use Rattle.cow_pages.specs.Frames.{AddUp, TakesFrame}
+use Rattle.frame_pool.specs.Bytes.{is_among}
 use Rattle.guest_mem.specs.Frames.{frames_for, marked_for}
 use Rattle.guest_mem.specs.Sound.{IsSound}
 use Rattle.guest_model.specs.Valid.{IsWhole}
@@ -34,10 +36,10 @@ frame_there marks a n free len fits some within enough =
       | inr h ↦ inr (omega (arith, enough, frames_in_page marks a n len fits some within ∙ ap (λ (t : Bool). cond {A = ℕ} t 0 1) h))
     ]
 
-pub free_after : (marks : List Bool) (a n free : ℕ) → length marks ≡ 2 ^ 20 → a < 2 ^ 32 → 0 < n → a % 4096 + n ≤ 4096 → frames_for marks a n ≤ free → free - cond (get_or marks (a / 4096) false) 0 1 + frames_for marks a n ≡ free
-free_after marks a n free len fits some within enough =
+pub free_after : (marks : List Bool) (a n left free : ℕ) → length marks ≡ 2 ^ 20 → a < 2 ^ 32 → 0 < n → a % 4096 + n ≤ 4096 → left + cond (get_or marks (a / 4096) false) 0 1 ≡ free → left + frames_for marks a n ≡ free
+free_after marks a n left free len fits some within is =
     let one = frames_in_page marks a n len fits some within in
-    omega (arith, enough, one)
+    omega (arith, is, one)
 
 among_page : (a n q : ℕ) → a % 4096 + n ≤ 4096 → is_among a n q ≡ true → q / 4096 ≡ a / 4096
 among_page a n q within h =
@@ -59,40 +61,42 @@ framed_there false m h k = sym h
 pub sound_written : (areas : List Area) (rights : List Rights) (old new : Contents) (brk next a : ℕ) (source : List ℕ)
     → IsSound areas rights old brk next → a < 2 ^ 32 → a % 4096 + length source ≤ 4096 → is_mapped areas a ≡ true
     → ((q : ℕ) → get_or new.flat_bytes q 0 ≡ cond (is_among a (length source) q) (get_or source (q - a) 0) (get_or old.flat_bytes q 0))
-    → length new.flat_bytes ≡ 2 ^ 32 → new.framed ≡ set old.framed (a / 4096) true → new.touched ≡ set old.touched (a / 4096) true → count_marked new.framed + new.free ≡ new.frames
+    → length new.flat_bytes ≡ 2 ^ 32 → TakesFrame old.frames new.frames (a / 4096) → AddUp new.frames
     → IsSound areas rights new brk next
-sound_written areas rights old new brk next a source sound fits within here bytes len framed touched adds_up = record {
-  whole = sound.whole;
-  adds_up = adds_up;
-  few_pages = sound.few_pages;
-  table = sound.table;
-  pages_len = len;
-  rest_zero = λ q none. bytes q ∙ unmapped_still (is_among a (length source) q) (is_mapped areas q) _ _ (mapped_among areas a (length source) sound.whole here within q) none (sound.rest_zero q none);
-  framed_len = ap length framed ∙ length-set old.framed (a / 4096) true ∙ sound.framed_len;
-  touched_len = ap length touched ∙ length-set old.touched (a / 4096) true ∙ sound.touched_len;
-  framed_where = λ page lt. elim (cases_eq page (a / 4096)) [
-    | inl e ↦
-        let in_framed : page < length old.framed = omega (arith, sound.framed_len) in
-        let in_touched : page < length old.touched = omega (arith, sound.touched_len) in
-        let mapped : is_mapped areas (4096 * page) ≡ true = ap (λ p. is_mapped areas (4096 * p)) e ∙ sym (mapped_page areas sound.whole a) ∙ here in
-        let framed_now : get_or new.framed page false ≡ true = ap (λ l. get_or l page false) framed ∙ ap (λ p. get_or (set old.framed p true) page false) (sym e) ∙ get_or-set_same old.framed page true false in_framed in
-        let touched_now : get_or new.touched page false ≡ true = ap (λ l. get_or l page false) touched ∙ ap (λ p. get_or (set old.touched p true) page false) (sym e) ∙ get_or-set_same old.touched page true false in_touched in
-        framed_now ∙ framed_there (get_or new.touched page false) (is_mapped areas (4096 * page)) touched_now mapped
-    | inr ne ↦
-        ap (λ l. get_or l page false) framed ∙ get_or-set_other old.framed (a / 4096) page true false ne
-        ∙ sound.framed_where page lt
-        ∙ ap (λ t. t && is_mapped areas (4096 * page)) (sym (ap (λ l. get_or l page false) touched ∙ get_or-set_other old.touched (a / 4096) page true false ne))
-  ];
-  sides = sound.sides;
-  heap_bound = sound.heap_bound;
-  heap = sound.heap;
-  next = sound.next;
-  unused_free = sound.unused_free;
-  unused_untouched = λ page h. elim (cases_eq page (a / 4096)) [
-    | inl e ↦ absurd (true≢false (sym here ∙ mapped_page areas sound.whole a ∙ ap (λ p. is_mapped areas (4096 * p)) (sym e) ∙ sound.unused_free (4096 * page) h))
-    | inr ne ↦ ap (λ l. get_or l page false) touched ∙ get_or-set_other old.touched (a / 4096) page true false ne ∙ sound.unused_untouched page h
-  ];
-}
+sound_written areas rights old new brk next a source sound fits within here bytes len takes adds_up =
+    let framed = takes.framed in
+    let written = takes.written in record {
+      whole = sound.whole;
+      adds_up = adds_up;
+      few_pages = sound.few_pages;
+      table = sound.table;
+      pages_len = len;
+      rest_zero = λ q none. bytes q ∙ unmapped_still (is_among a (length source) q) (is_mapped areas q) _ _ (mapped_among areas a (length source) sound.whole here within q) none (sound.rest_zero q none);
+      framed_len = ap length framed ∙ length-set old.frames.framed (a / 4096) true ∙ sound.framed_len;
+      written_len = ap length written ∙ length-set old.frames.written (a / 4096) true ∙ sound.written_len;
+      framed_where = λ page lt. elim (cases_eq page (a / 4096)) [
+        | inl e ↦
+            let in_framed : page < length old.frames.framed = omega (arith, sound.framed_len) in
+            let in_written : page < length old.frames.written = omega (arith, sound.written_len) in
+            let mapped : is_mapped areas (4096 * page) ≡ true = ap (λ p. is_mapped areas (4096 * p)) e ∙ sym (mapped_page areas sound.whole a) ∙ here in
+            let framed_now : get_or new.frames.framed page false ≡ true = ap (λ l. get_or l page false) framed ∙ ap (λ p. get_or (set old.frames.framed p true) page false) (sym e) ∙ get_or-set_same old.frames.framed page true false in_framed in
+            let written_now : get_or new.frames.written page false ≡ true = ap (λ l. get_or l page false) written ∙ ap (λ p. get_or (set old.frames.written p true) page false) (sym e) ∙ get_or-set_same old.frames.written page true false in_written in
+            framed_now ∙ framed_there (get_or new.frames.written page false) (is_mapped areas (4096 * page)) written_now mapped
+        | inr ne ↦
+            ap (λ l. get_or l page false) framed ∙ get_or-set_other old.frames.framed (a / 4096) page true false ne
+            ∙ sound.framed_where page lt
+            ∙ ap (λ t. t && is_mapped areas (4096 * page)) (sym (ap (λ l. get_or l page false) written ∙ get_or-set_other old.frames.written (a / 4096) page true false ne))
+      ];
+      sides = sound.sides;
+      heap_bound = sound.heap_bound;
+      heap = sound.heap;
+      next = sound.next;
+      unused_free = sound.unused_free;
+      unused_unwritten = λ page h. elim (cases_eq page (a / 4096)) [
+        | inl e ↦ absurd (true≢false (sym here ∙ mapped_page areas sound.whole a ∙ ap (λ p. is_mapped areas (4096 * p)) (sym e) ∙ sound.unused_free (4096 * page) h))
+        | inr ne ↦ ap (λ l. get_or l page false) written ∙ get_or-set_other old.frames.written (a / 4096) page true false ne ∙ sound.unused_unwritten page h
+      ];
+    }
 
 wrap_small : (a : ℕ) → a < 2 ^ 32 → wrap a ≡ a
 wrap_small a lt = omega arith

@@ -1,22 +1,12 @@
 -- The frames of the pages of a guest's memory: a page takes one when it is first written.
-use Rattle.std.specs.Prelude.{◌≡◌, ℕ, ◌+◌, ◌*◌, ◌≤◌, ◌⊎◌, Bool, ◌&&◌, ◌||◌, not, false, List, length, map, slice_index_or, refl}
-use Rattle.std.specs.Coded.{Coded, coded_ℕ, coded_bool, coded_list, coded×, code_by}
+use Rattle.std.specs.Prelude.{◌≡◌, ℕ, ◌+◌, ◌*◌, ◌≤◌, ◌⊎◌, Bool, ◌&&◌, ◌||◌, not, false, List, length, map, slice_index_or}
 use Rattle.std.specs.List.{count_by, range_with_len}
 use Rattle.guest_model.specs.Areas.{is_mapped}
 use Rattle.guest_model.specs.Range.{Range, is_page_of, is_page_among}
 use Rattle.guest_model.specs.declared.Area.{Area}
 use Rattle.guest_model.specs.declared.platform.TheConstants.{MOST_PAGES, PAGE_SIZE}
-use Rattle.page_store.specs.Contents.{count_marked}
-
-pub record Frames : Type 0 where
-  -- for each page, whether it has a frame
-  pub framed : List Bool
-  -- for each page, whether it was written since the space was made, also if it is mapped no longer
-  pub written : List Bool
-  -- how many frames are free
-  pub free : ℕ
-  -- how many frames there are
-  pub count : ℕ
+use Rattle.cow_pages.specs.Marks.{count_marked}
+pub use Rattle.cow_pages.specs.Frames.{Frames, frames_code, free_frames}
 
 -- how many of the pages that hold the n addresses from a on have no frame
 unfoldable pub frames_for : List Bool → ℕ → ℕ → ℕ
@@ -59,8 +49,3 @@ pub record GivesFramesBack (areas : List Area) (old new : Frames) : Type 0 where
   pub written : new.written ≡ old.written
   pub free : count_marked new.framed + new.free ≡ new.count
   pub count : new.count ≡ old.count
-
-abbrev pub frames_code : Coded Frames
-frames_code = code_by (List Bool × (List Bool × (ℕ × ℕ))) (coded× (coded_list coded_bool) (coded× (coded_list coded_bool) (coded× coded_ℕ coded_ℕ)))
-    (λ f. (f.framed, (f.written, (f.free, f.count))))
-    (λ p. record { framed = p.0; written = p.1.0; free = p.1.1.0; count = p.1.1.1 }) (λ _. refl)

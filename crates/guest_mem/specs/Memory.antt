@@ -1,20 +1,16 @@
 -- A guest's memory: its space, and the frames of its pages.
-use Rattle.std.specs.Prelude.{◌≡◌, ℕ, ◌*◌, ◌<◌, ◌^◌, Bool, ◌&&◌, false, true, List, slice_index_or, refl}
+use Rattle.std.specs.Prelude.{◌≡◌, ℕ, ◌*◌, ◌<◌, ◌^◌, ◌&&◌, false, true, List, slice_index_or, refl}
 use Rattle.std.specs.Coded.{Coded, coded×, code_by}
 use Rattle.guest_model.specs.Areas.{is_mapped, holds}
 use Rattle.guest_model.specs.Space.{Space, space_code}
 use Rattle.guest_model.specs.declared.Area.{Area}
 use Rattle.guest_model.specs.declared.platform.TheConstants.{PAGE_SIZE}
-use Rattle.page_store.specs.Contents.{unmarked}
 use Rattle.guest_mem.specs.Frames.{Frames, frames_code}
+pub use Rattle.guest_mem.specs.Frames.{free_frames}
 
 pub record Memory : Type 0 where
   pub space : Space
   pub frames : Frames
-
--- no page was written, and so many frames are free
-unfoldable pub free_frames : ℕ → Frames
-free_frames count = record { framed = unmarked (2 ^ 20); written = unmarked (2 ^ 20); free = count; count = count }
 
 -- a page has a frame exactly where it was written and is mapped
 abbrev pub HasFramesWhereWritten : Memory → Type 0

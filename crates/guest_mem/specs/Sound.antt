@@ -1,5 +1,5 @@
 -- What holds of the fields of every space.
-use Rattle.std.specs.Prelude.{◌≡◌, ℕ, ◌+◌, ◌*◌, ◌%◌, ◌^◌, ◌<◌, ◌≤◌, ◌⊎◌, ◌==◌, Bool, ◌&&◌, ◌||◌, false, true, List, [], ◌∷◌, length, if◌then◌else◌, slice_index, slice_index_or}
+use Rattle.std.specs.Prelude.{◌≡◌, ℕ, ◌*◌, ◌^◌, ◌<◌, ◌≤◌, ◌⊎◌, ◌==◌, Bool, ◌&&◌, ◌||◌, false, true, List, [], ◌∷◌, length, if◌then◌else◌, slice_index, slice_index_or}
 use Rattle.std.specs.List.{All, list_any}
 use Rattle.guest_model.specs.Added.{mapped_pages}
 use Rattle.guest_model.specs.Areas.{is_mapped, is_permitted, rounded_up}
@@ -10,7 +10,8 @@ use Rattle.guest_model.specs.declared.Area.{Area}
 use Rattle.guest_model.specs.declared.Access.{Access}
 use Rattle.guest_model.specs.declared.Access.TheVariants.{Read, Write, Execute}
 use Rattle.guest_mem.specs.declared.rights.Rights.{Rights}
-use Rattle.page_store.specs.Contents.{Contents, count_marked}
+use Rattle.cow_pages.specs.Contents.{Contents}
+use Rattle.cow_pages.specs.Frames.{AddUp}
 
 abbrev pub allows : Access → Rights → Bool
 allows Read rights = rights.read
@@ -49,15 +50,15 @@ pub record IsSound (areas : List Area) (rights : List Rights) (pages : Contents)
   pub table : HasRights areas rights
   pub pages_len : length pages.flat_bytes ≡ 2 ^ 32
   pub rest_zero : (a : ℕ) → is_mapped areas a ≡ false → slice_index pages.flat_bytes a ≡ 0
-  pub framed_len : length pages.framed ≡ 2 ^ 20
-  pub touched_len : length pages.touched ≡ 2 ^ 20
-  pub framed_where : (page : ℕ) → page < 2 ^ 20 → slice_index_or pages.framed page false ≡ (slice_index_or pages.touched page false && is_mapped areas (4096 * page))
+  pub framed_len : length pages.frames.framed ≡ 2 ^ 20
+  pub written_len : length pages.frames.written ≡ 2 ^ 20
+  pub framed_where : (page : ℕ) → page < 2 ^ 20 → slice_index_or pages.frames.framed page false ≡ (slice_index_or pages.frames.written page false && is_mapped areas (4096 * page))
   pub sides : All IsOnOneSide areas
   pub heap_bound : heap_break ≤ MAPS_START
   pub heap : heap_ends (rounded_up heap_break) areas ≡ true
   pub next : IsMapStart next_map
   -- no area stands where the heap will grow, nor where maps will, and nothing was written there
   pub unused_free : (a : ℕ) → is_unused heap_break next_map a ≡ true → is_mapped areas a ≡ false
-  pub unused_untouched : (page : ℕ) → is_unused heap_break next_map (4096 * page) ≡ true → slice_index_or pages.touched page false ≡ false
+  pub unused_unwritten : (page : ℕ) → is_unused heap_break next_map (4096 * page) ≡ true → slice_index_or pages.frames.written page false ≡ false
   -- each frame is given or free
-  pub adds_up : count_marked pages.framed + pages.free ≡ pages.frames
+  pub adds_up : AddUp pages.frames

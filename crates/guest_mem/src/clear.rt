@@ -4,14 +4,14 @@ ghost use Rattle.std.specs.Prelude.{true, false, length, if◌then◌else◌, sl
 ghost use Rattle.std.specs.Prelude.{slice_index_or};
 ghost use Rattle.std.specs.List.{All};
 ghost use Rattle.guest_model.specs.Maps.{is_in_range};
-ghost use Rattle.page_store.specs.Contents.{count_marked};
+ghost use Rattle.cow_pages.specs.Frames.{AddUp};
 ghost use Rattle.guest_mem.specs.Sound.{is_cut, no_rights};
 ghost use Rattle.guest_model.specs.Valid.{IsWhole};
 
 use crate::rights::{NO_RIGHTS, Rights, fill};
+use cow_pages::Pages;
 use guest_model::Area;
 use guest_model::platform::PAGE_SIZE;
-use page_store::Pages;
 
 /// Gives back the pages of the areas that are in the range, and takes their rights.
 pub(crate) fn clear_range(
@@ -30,13 +30,12 @@ pub(crate) fn clear_range(
         ≡ (if is_cut from to areas.now q then 0 else slice_index pages.old.flat_bytes q) }
     ensures bytes_len { length pages.new.flat_bytes ≡ 2 ^ 32 }
     ensures framed { (page : ℕ)
-        → slice_index_or pages.new.framed page false
-        ≡ (not (is_cut from to areas.now (PAGE_SIZE * page)) && slice_index_or pages.old.framed page false) }
-    ensures framed_len { length pages.new.framed ≡ length pages.old.framed }
-    ensures touched { pages.new.touched ≡ pages.old.touched }
-    ensures frames { pages.new.frames ≡ pages.old.frames }
-    ensures adds_up { count_marked pages.old.framed + pages.old.free ≡ pages.old.frames
-        → count_marked pages.new.framed + pages.new.free ≡ pages.new.frames }
+        → slice_index_or pages.new.frames.framed page false
+        ≡ (not (is_cut from to areas.now (PAGE_SIZE * page)) && slice_index_or pages.old.frames.framed page false) }
+    ensures framed_len { length pages.new.frames.framed ≡ length pages.old.frames.framed }
+    ensures written { pages.new.frames.written ≡ pages.old.frames.written }
+    ensures count { pages.new.frames.count ≡ pages.old.frames.count }
+    ensures adds_up { AddUp pages.old.frames → AddUp pages.new.frames }
     ensures rights { (page : ℕ) → slice_index_or rights.new.items page no_rights
         ≡ (if is_cut from to areas.now (PAGE_SIZE * page) then no_rights
         else slice_index_or rights.old.items page no_rights) }
@@ -58,13 +57,12 @@ fn clear_part(area: &Area, from: u32, to: u32, pages: &mut Pages, rights: &mut V
         ≡ (if is_cut from to (area.now ∷ []) q then 0 else slice_index pages.old.flat_bytes q) }
     ensures bytes_len { length pages.new.flat_bytes ≡ 2 ^ 32 }
     ensures framed { (page : ℕ)
-        → slice_index_or pages.new.framed page false
-        ≡ (not (is_cut from to (area.now ∷ []) (PAGE_SIZE * page)) && slice_index_or pages.old.framed page false) }
-    ensures framed_len { length pages.new.framed ≡ length pages.old.framed }
-    ensures touched { pages.new.touched ≡ pages.old.touched }
-    ensures frames { pages.new.frames ≡ pages.old.frames }
-    ensures adds_up { count_marked pages.old.framed + pages.old.free ≡ pages.old.frames
-        → count_marked pages.new.framed + pages.new.free ≡ pages.new.frames }
+        → slice_index_or pages.new.frames.framed page false
+        ≡ (not (is_cut from to (area.now ∷ []) (PAGE_SIZE * page)) && slice_index_or pages.old.frames.framed page false) }
+    ensures framed_len { length pages.new.frames.framed ≡ length pages.old.frames.framed }
+    ensures written { pages.new.frames.written ≡ pages.old.frames.written }
+    ensures count { pages.new.frames.count ≡ pages.old.frames.count }
+    ensures adds_up { AddUp pages.old.frames → AddUp pages.new.frames }
     ensures rights { (page : ℕ) → slice_index_or rights.new.items page no_rights
         ≡ (if is_cut from to (area.now ∷ []) (PAGE_SIZE * page) then no_rights
         else slice_index_or rights.old.items page no_rights) }
@@ -72,12 +70,12 @@ fn clear_part(area: &Area, from: u32, to: u32, pages: &mut Pages, rights: &mut V
 {
     let first = area.start.max(from) / PAGE_SIZE;
     let end = (area.end.min(to) / PAGE_SIZE).max(first);
-    release_pages(pages, first, end);
+    drop_pages(pages, first, end);
     fill(rights, first, end, NO_RIGHTS);
 }
 
-/// Gives back the pages from `from` to below `to`.
-fn release_pages(pages: &mut Pages, from: u32, to: u32)
+/// Drops the pages from `from` to below `to`.
+fn drop_pages(pages: &mut Pages, from: u32, to: u32)
     requires order { from ≤ to }
     requires within { to ≤ 2 ^ 20 }
     requires bytes { length pages.old.flat_bytes ≡ 2 ^ 32 }
@@ -85,15 +83,14 @@ fn release_pages(pages: &mut Pages, from: u32, to: u32)
         ≡ (if is_in_range from to (q / PAGE_SIZE) then 0 else slice_index pages.old.flat_bytes q) }
     ensures bytes_len { length pages.new.flat_bytes ≡ 2 ^ 32 }
     ensures framed { (page : ℕ)
-        → slice_index_or pages.new.framed page false
-        ≡ (not (is_in_range from to page) && slice_index_or pages.old.framed page false) }
-    ensures framed_len { length pages.new.framed ≡ length pages.old.framed }
-    ensures touched { pages.new.touched ≡ pages.old.touched }
-    ensures frames { pages.new.frames ≡ pages.old.frames }
-    ensures adds_up { count_marked pages.old.framed + pages.old.free ≡ pages.old.frames
-        → count_marked pages.new.framed + pages.new.free ≡ pages.new.frames }
+        → slice_index_or pages.new.frames.framed page false
+        ≡ (not (is_in_range from to page) && slice_index_or pages.old.frames.framed page false) }
+    ensures framed_len { length pages.new.frames.framed ≡ length pages.old.frames.framed }
+    ensures written { pages.new.frames.written ≡ pages.old.frames.written }
+    ensures count { pages.new.frames.count ≡ pages.old.frames.count }
+    ensures adds_up { AddUp pages.old.frames → AddUp pages.new.frames }
 {
     for page in from..to {
-        pages.release(page);
+        pages.drop_page(page);
     }
 }

@@ -11,7 +11,7 @@ ghost use Rattle.guest_model.specs.Added.{empty_space, with_area, mapped_pages, 
 ghost use Rattle.guest_model.specs.Maps.{grow_of, grown, growth, map_of, map_area, mapped};
 ghost use Rattle.guest_model.specs.Maps.{unmap_of, without_range, cut_areas};
 ghost use Rattle.guest_model.specs.Valid.{IsSpace};
-ghost use Rattle.page_store.specs.Contents.{count_marked};
+ghost use Rattle.cow_pages.specs.Marks.{count_marked};
 ghost use Rattle.guest_model.specs.Range.{range};
 ghost use Rattle.guest_mem.specs.Frames.{HasAllFrames, TakesFrames, GivesFramesBack};
 ghost use Rattle.guest_mem.specs.Memory.{HasFramesWhereWritten, IsApart, free_frames};
@@ -21,11 +21,11 @@ use crate::clear::clear_range;
 use crate::number::{low_bytes, number_of};
 use crate::rights::{Rights, fill, no_table};
 use arrayvec::ArrayVec;
+use cow_pages::Pages;
 use guest_model::platform::{
     EINVAL, ENOMEM, HEAP_START, MAPS_END, MAPS_START, MOST_AREAS, MOST_PAGES, PAGE_SIZE, failure,
 };
 use guest_model::{Access, Area};
-use page_store::Pages;
 use std::alloc::{AllocError, Global};
 use std::marker::Model;
 
@@ -60,7 +60,7 @@ impl Model for Space {
 
     ghost view = { λ s. record {
       space = space_over s.areas.items s.pages.flat_bytes s.heap_break s.next_map;
-      frames = record { framed = s.pages.framed; written = s.pages.touched; free = s.pages.free; count = s.pages.frames };
+      frames = s.pages.frames;
     } };
 
     ghost invariant = { λ s. IsSound s.areas.items s.rights.items s.pages s.heap_break s.next_map };
@@ -137,7 +137,7 @@ impl Space {
     pub fn peek_byte(&self, at: u32) -> u8
         ensures { result ≡ byte_at self.now.space.bytes at }
     {
-        self.pages.read(at)
+        self.pages.read(at / PAGE_SIZE, at % PAGE_SIZE)
     }
 
     /// Whether each of the `len` bytes from `at` on may be read. A range that passes 2^32 may not.
@@ -204,7 +204,10 @@ impl Space {
         ensures number { result ≡ number_of_bytes (bytes_at self.now.space.bytes at size) }
         ensures fits { result < 2 ^ (8 * size) }
     {
-        match self.pages.slice(at, size as usize) {
+        match self
+            .pages
+            .slice(at / PAGE_SIZE, at % PAGE_SIZE, size as usize)
+        {
             None => 0,
             Some(bytes) => number_of(bytes),
         }
@@ -339,7 +342,7 @@ impl Space {
             ≡ with_bytes self.old.space (put_bytes self.old.space.bytes at bytes.now) }
         ensures frames { TakesFrames self.old.frames self.new.frames (range at (length bytes.now) ∷ []) }
     {
-        self.pages.write(at, bytes);
+        self.pages.write(at / PAGE_SIZE, at % PAGE_SIZE, bytes);
     }
 
     /// Adds an area that holds the given bytes from `at` on and zeros elsewhere. No frame is used,
@@ -365,7 +368,7 @@ impl Space {
         if area.end <= MAPS_START && behind <= place {
             return Err(AllocError);
         }
-        self.pages.place(at, bytes)?;
+        self.pages.place(at / PAGE_SIZE, at % PAGE_SIZE, bytes)?;
         self.areas.insert(place, area);
         fill(
             &mut self.rights,

@@ -7,7 +7,6 @@ use std::alloc::Global;
 
 /// The guest of a file with these arguments. It has a frame for each page that can be mapped. None
 /// where the file is refused, or memory is lacking.
-#[tactic(auto, unfolding(guest_mem::specs::Memory::free_frames))]
 pub fn guest_of(alloc: Global, file: &[u8], args: &[String]) -> Option<Guest>
     ensures { IfSome result (λ guest. guest.frames.count ≡ 16384) }
 {

@@ -144,5 +144,4 @@ ran_decides program (Err refusals.ReportFault) accepted late = accepted
 
 -- a new guest's frames
 pub count_of_free : (n : ℕ) → (free_frames n).count ≡ n
-unfolding free_frames
 count_of_free n = refl

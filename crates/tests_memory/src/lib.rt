@@ -2,6 +2,5 @@
 #![tactic(auto)]
 
 #[cfg(test)]
-mod pages;
 #[cfg(test)]
 mod space;

@@ -8,7 +8,6 @@ use Rattle.guest_mem.proofs.Begun.{none_written}
 use Rattle.tests_memory.proofs.space.small.Goals as goal
 
 counted : (f : Frames) (n : ℕ) → f ≡ free_frames n → f.count ≡ n
-unfolding free_frames
 counted f n e = ap (λ (g : Frames). g.count) e
 
 pub add_area-requires-clause-unwritten : goal.add_area-requires-clause-unwritten

@@ -3,7 +3,7 @@ use Rattle.std.specs.List.{position_or_len}
 use Rattle.guest_model.specs.Added.{comes_before, mapped_pages}
 use Rattle.guest_model.specs.Maps.{map_area}
 use Rattle.guest_mem.proofs.Added.{sound_added}
-use Rattle.guest_mem.proofs.Mapping.{IsNewMap, map_added, map_untouched, space_mapped, none_given}
+use Rattle.guest_mem.proofs.Mapping.{IsNewMap, map_added, map_unwritten, space_mapped, none_given}
 use Rattle.guest_mem.proofs.space.Space.add_map.Goals as goal
 
 is_new : (c : goal.After-self-1) → IsNewMap (map_area c.self.inside.next_map c.args.size c.args.prot) c.self.inside.areas.items c.self.inside.next_map
@@ -24,8 +24,8 @@ invariant_of-self c =
     rw c.insert.ensures.items
     (sound_added area c.self.inside.areas.items _ c.self.inside.rights.items _ c.self.inside.pages c.self.inside.pages _ _ _ _ c.self.inside.next_map [] c.of.result
     c.self.invariant (map_added area c.self.inside.areas.items _ c.self.inside.pages _ _ c.place_of-place.result c.self.invariant (is_new c)) (record { from = omega arith; within = omega arith })
-    (map_untouched area c.self.inside.areas.items _ c.self.inside.pages _ _ c.self.invariant (is_new c))
-    (none_given c.self.inside.next_map c.self.inside.pages.flat_bytes) c.self.invariant.pages_len refl refl refl refl c.of.ensures c.fill.ensures.len c.fill.ensures.rights)
+    (map_unwritten area c.self.inside.areas.items _ c.self.inside.pages _ _ c.self.invariant (is_new c))
+    (none_given c.self.inside.next_map c.self.inside.pages.flat_bytes) c.self.invariant.pages_len refl c.of.ensures c.fill.ensures.len c.fill.ensures.rights)
 
 pub returns-clause-space : goal.returns-clause-space
 returns-clause-space c =

@@ -5,7 +5,7 @@ use Rattle.guest_model.specs.Areas.{rounded_up}
 use Rattle.guest_model.specs.Maps.{ends_low}
 use Rattle.guest_model.specs.declared.Area.{Area}
 use Rattle.guest_mem.proofs.Added.{sound_added}
-use Rattle.guest_mem.proofs.Growing.{gained, heap_seen, grown_added, gained_untouched, space_grown, some_low, rounded_order}
+use Rattle.guest_mem.proofs.Growing.{gained, heap_seen, grown_added, gained_unwritten, space_grown, some_low, rounded_order}
 use Rattle.guest_mem.proofs.Mapping.{none_given}
 use Rattle.guest_mem.proofs.space.Space.extend_heap.Goals as goal
 
@@ -35,8 +35,8 @@ invariant_of-self c =
     (sound_added (gained x (rounded_up c.args.to)) c.self.inside.areas.items _ c.self.inside.rights.items _ c.self.inside.pages c.self.inside.pages _ _ _ _ x.end [] c.of.result
     c.self.invariant (grown_added c.self.inside.areas.items _ c.self.inside.pages _ _ c.args.to c.behind_heap-place.result no_area c.self.invariant heap order c.requires.high few)
     (record { from = omega arith; within = let le = rounded_order c.self.inside.heap_break c.args.to order in let ends = heap.ends in omega arith })
-    (gained_untouched x c.self.inside.areas.items _ c.self.inside.pages _ _ c.args.to c.self.invariant heap.ends c.requires.high)
-    (none_given x.end c.self.inside.pages.flat_bytes) c.self.invariant.pages_len refl refl refl refl
+    (gained_unwritten x c.self.inside.areas.items _ c.self.inside.pages _ _ c.args.to c.self.invariant heap.ends c.requires.high)
+    (none_given x.end c.self.inside.pages.flat_bytes) c.self.invariant.pages_len refl
     (rw (c.deref-2.ensures.0, c.rounded_up.ensures) at c.of.ensures) c.fill.ensures.len (rw (c.deref-2.ensures.0, c.rounded_up.ensures) at c.fill.ensures.rights))
 
 pub returns-clause-space : goal.returns-clause-space

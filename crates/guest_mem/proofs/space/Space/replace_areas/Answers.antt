@@ -1,6 +1,5 @@
 use Rattle.std.proofs.Common.{◌≡◌, ◌∙◌, ap, sym}
 use Rattle.guest_model.specs.Maps.{cut_areas}
-use Rattle.guest_mem.specs.Frames.{marked_in}
 use Rattle.guest_mem.proofs.Unmapped.{IsMapRange, sound_cut, space_cut, framed_cut}
 use Rattle.guest_mem.proofs.space.Space.replace_areas.Goals as goal
 
@@ -14,7 +13,7 @@ invariant_of-self c =
     rw (left c)
     (sound_cut c.self.inside.areas.items c.self.inside.rights.items _ c.self.inside.pages _ _ _ c.args.from c.args.to c.self.invariant range
     (rw c.deref.ensures.0 at c.clear_range.ensures.bytes) c.clear_range.ensures.bytes_len
-    (rw c.deref.ensures.0 at c.clear_range.ensures.framed) c.clear_range.ensures.framed_len c.clear_range.ensures.touched c.clear_range.ensures.adds_up
+    (rw c.deref.ensures.0 at c.clear_range.ensures.framed) c.clear_range.ensures.framed_len c.clear_range.ensures.written c.clear_range.ensures.adds_up
     (rw c.deref.ensures.0 at c.clear_range.ensures.rights) c.clear_range.ensures.table_len)
 
 pub returns-clause-space : goal.returns-clause-space
@@ -30,7 +29,7 @@ returns-clause-frames c =
       framed =
           framed_cut c.self.inside.areas.items c.self.inside.rights.items c.self.inside.pages c.clear_range.new.pages _ _ c.args.from c.args.to c.self.invariant c.requires.order
           (rw c.deref.ensures.0 at c.clear_range.ensures.framed) c.clear_range.ensures.framed_len;
-      written = c.clear_range.ensures.touched;
+      written = c.clear_range.ensures.written;
       free = c.clear_range.ensures.adds_up c.self.invariant.adds_up;
-      count = c.clear_range.ensures.frames;
+      count = c.clear_range.ensures.count;
     })

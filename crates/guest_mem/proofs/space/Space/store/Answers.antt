@@ -1,9 +1,8 @@
-use Rattle.std.proofs.Common.{◌≡◌, ◌+◌, length, take, ap, sym, ◌∙◌, arith}
+use Rattle.std.proofs.Common.{◌≡◌, ◌+◌, ap, sym, ◌∙◌, arith}
 use Rattle.std.proofs.lemmas.List.{length-take}
 use Rattle.guest_model.specs.Areas.{is_mapped}
 use Rattle.guest_model.specs.declared.Access.TheVariants.{Write}
-use Rattle.guest_mem.specs.Frames.{frames_for}
-use Rattle.guest_mem.proofs.Permitted.{below_mapped, all_mapped}
+use Rattle.guest_mem.proofs.Permitted.{below_mapped}
 use Rattle.guest_mem.proofs.space.Space.store.Goals as goal
 
 pub store_bytes-requires-clause-end : goal.store_bytes-requires-clause-end

@@ -1,4 +1,4 @@
-use Rattle.std.proofs.Common.{◌≡◌, ◌+◌, ◌-◌, ◌≤◌, length, take}
+use Rattle.std.proofs.Common.{◌≡◌, ◌-◌, ◌≤◌, length, take}
 use Rattle.guest_model.specs.Bytes.{put_bytes}
 use Rattle.guest_model.specs.Space.{with_bytes}
 use Rattle.guest_mem.proofs.Ranges.{TakesAt}
