@@ -132,7 +132,7 @@ rights_added access x xs ys rights new r page whole apart permitted table lt giv
           ∙ sym permitted
     ]
 
-among_held : (x : Area) (at n q : ℕ) → x.start ≤ at → at + n ≤ x.end → is_among at n q ≡ true → holds x q ≡ true
+pub among_held : (x : Area) (at n q : ℕ) → x.start ≤ at → at + n ≤ x.end → is_among at n q ≡ true → holds x q ≡ true
 among_held x at n q from within h = grind (arith, nat_tests)
 
 pages_end : (at n e : ℕ) → at + n ≤ e → e % 4096 ≡ 0 → at / 4096 + (at % 4096 % 4096 + n + 4095) / 4096 ≤ e / 4096
@@ -157,7 +157,7 @@ or_none : (h m : Bool) → h ≡ false → m ≡ false → (h || m) ≡ false
 or_none true m e f = e
 or_none false m e f = f
 
-not_among : (t h : Bool) (v w : ℕ) → (t ≡ true → h ≡ true) → h ≡ false → cond t v w ≡ w
+pub not_among : (t h : Bool) (v w : ℕ) → (t ≡ true → h ≡ true) → h ≡ false → cond t v w ≡ w
 not_among true h v w there none = absurd (true≢false (sym (there refl) ∙ none))
 not_among false h v w there none = refl
 

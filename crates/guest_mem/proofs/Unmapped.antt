@@ -100,7 +100,7 @@ keeps_permits Read x start end = refl
 keeps_permits Write x start end = refl
 keeps_permits Execute x start end = refl
 
-is_permitted-cut : (access : Access) (from to a : ℕ) (xs : List Area) → from ≤ to → is_permitted access (cut_areas from to xs) a ≡ (not (is_in_range from to a) && is_permitted access xs a)
+pub is_permitted-cut : (access : Access) (from to a : ℕ) (xs : List Area) → from ≤ to → is_permitted access (cut_areas from to xs) a ≡ (not (is_in_range from to a) && is_permitted access xs a)
 is_permitted-cut access from to a xs le = any_cut (permits access) (keeps_permits access) from to a xs le
 
 -- what holds of each part holds of what is left

@@ -2,3 +2,4 @@ pub mod Frames
 pub mod Memory
 pub mod Mapped
 pub mod Sound
+pub mod Code

@@ -3,10 +3,12 @@
 
 mod areas;
 mod clear;
+mod code;
 pub mod laws;
 mod number;
 mod rights;
 mod space;
 
+pub use code::Code;
 pub use guest_model::{Access, Area};
 pub use space::{Denied, Space};

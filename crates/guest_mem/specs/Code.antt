@@ -1,0 +1,49 @@
+-- Code that is kept decoded: words that stand one after the other where they may be executed, and no store can change them.
+use Rattle.std.specs.Prelude.{◌≡◌, ℕ, ◌+◌, ◌*◌, ◌/◌, ◌%◌, ◌^◌, ◌<◌, ◌≤◌, true, false, List, [], ◌∷◌, length, map, Option, None, slice_index, slice_index_or}
+use Rattle.std.specs.List.{range_with_len}
+use Rattle.rv_isa.specs.Decoded.{decoded}
+use Rattle.rv_isa.specs.Table.{Fields}
+use Rattle.guest_model.specs.Areas.{is_permitted}
+use Rattle.guest_model.specs.Bytes.{number_of}
+use Rattle.guest_model.specs.declared.Area.{Area}
+use Rattle.guest_model.specs.declared.Access.TheVariants.{Write, Execute}
+use Rattle.guest_model.specs.declared.platform.TheConstants.{MAPS_START}
+
+-- what the words from `start` on decode to
+pub record CodeFields : Type 0 where
+  pub start : ℕ
+  pub words : List (Option Fields)
+
+-- the word at a place of a list of bytes, the lowest byte first
+unfoldable pub word_in : List ℕ → ℕ → ℕ
+word_in bytes k = number_of (slice_index bytes k ∷ slice_index bytes (k + 1) ∷ slice_index bytes (k + 2) ∷ slice_index bytes (k + 3) ∷ [])
+
+-- the code of bytes that stand from an address on: their whole words, decoded
+abbrev pub words_of : List ℕ → List (Option Fields)
+words_of bytes = map (λ k. decoded (word_in bytes (4 * k))) (range_with_len 0 (length bytes / 4))
+
+abbrev pub code_of : ℕ → List ℕ → CodeFields
+code_of start bytes = record { start = start; words = words_of bytes }
+
+-- what a word of the code decodes to, None behind the last
+abbrev pub kept_word : CodeFields → ℕ → Option Fields
+kept_word code k = slice_index_or code.words k None
+
+-- the byte at an address may be executed and not written
+pub record IsFixed (areas : List Area) (a : ℕ) : Type 0 where
+  pub executed : is_permitted Execute areas a ≡ true
+  pub unwritten : is_permitted Write areas a ≡ false
+
+-- the code is what the words of these bytes of all addresses decode to, and its bytes are fixed. It lies below where maps
+-- start, so that no call changes them either
+pub record IsKept (areas : List Area) (all : List ℕ) (code : CodeFields) : Type 0 where
+  pub end : code.start + 4 * length code.words ≤ MAPS_START
+  pub fixed : (a : ℕ) → code.start ≤ a → a < code.start + 4 * length code.words → IsFixed areas a
+  pub decodes : (k : ℕ) → k < length code.words → kept_word code k ≡ decoded (word_in all (code.start + 4 * k))
+
+-- the word is that at an address of the code
+pub record IsWordOf (code : CodeFields) (a : ℕ) (word : Option Fields) : Type 0 where
+  pub k : ℕ
+  pub within : k < length code.words
+  pub at : a ≡ (code.start + 4 * k) % 2 ^ 32
+  pub is : kept_word code k ≡ word
