@@ -16,3 +16,4 @@ pub mod Unmapped
 pub mod Enough
 pub mod Few
 pub mod Ascending
+pub mod Freezing

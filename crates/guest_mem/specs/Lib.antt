@@ -2,3 +2,5 @@ pub mod Frames
 pub mod Memory
 pub mod Mapped
 pub mod Sound
+pub mod Table
+pub mod Frozen

@@ -3,10 +3,13 @@
 
 mod areas;
 mod clear;
+mod frozen;
 pub mod laws;
 mod number;
 mod rights;
 mod space;
+mod threads;
 
+pub use frozen::FrozenSpace;
 pub use guest_model::{Access, Area};
 pub use space::{Denied, Space};
