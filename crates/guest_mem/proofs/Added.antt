@@ -173,17 +173,15 @@ pub sound_added : (x : Area) (xs ys : List Area) (rights new_rights : List Right
     → ((q : ℕ) → get_or new.flat_bytes q 0 ≡ cond (is_among at (length given) q) (get_or given (q - at) 0) (get_or old.flat_bytes q 0))
     → length new.flat_bytes ≡ 2 ^ 32 → new.frames ≡ old.frames
     → ((access : Access) → allows access r ≡ permits access x)
-    → length new_rights ≡ length rights
     → ((page : ℕ) → get_or new_rights page no_rights ≡ cond (is_page_in x page) r (get_or rights page no_rights))
     → IsSound ys new_rights new new_brk new_next
-sound_added x xs ys rights new_rights old new brk next new_brk new_next at given r sound added inside unwritten bytes len frames gives rights_len each =
+sound_added x xs ys rights new_rights old new brk next new_brk new_next at given r sound added inside unwritten bytes len frames gives each =
     let framed = ap (λ (f : Frames). f.framed) frames in
     let written = ap (λ (f : Frames). f.written) frames in record {
       whole = added.all_whole;
       adds_up = subst AddUp (sym frames) sound.adds_up;
       few_pages = added.few_pages;
       table = record {
-        len = rights_len ∙ sound.table.len;
         each = λ access page lt. rights_added access x xs ys rights new_rights r page added.whole added.apart (added.permitted access (4096 * page)) sound.table lt gives (each page);
       };
       pages_len = len;

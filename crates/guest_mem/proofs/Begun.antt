@@ -52,17 +52,17 @@ heap_side h high (suc k) d lt = absurd (omega arith)
 rounded : (h : ℕ) → h % 4096 ≡ 0 → rounded_up h ≡ h
 rounded h page = omega arith
 
-pub sound_empty : (h : ℕ) (rights : List Rights) (pages : Contents) → h % 4096 ≡ 0 → h ≤ 0x40000000 → length rights ≡ 2 ^ 20 → ((page : ℕ) → get_or rights page no_rights ≡ no_rights)
+pub sound_empty : (h : ℕ) (rights : List Rights) (pages : Contents) → h % 4096 ≡ 0 → h ≤ 0x40000000 → rights ≡ []
     → (count : ℕ) → pages ≡ pages_over (flat (λ _. 0)) count → AddUp pages.frames
     → IsSound (heap_area h ∷ []) rights pages h 0x40000000
-sound_empty h rights pages page high len none count is adds_up =
+sound_empty h rights pages page high none count is adds_up =
     let bytes = ap (λ (p : Contents). p.flat_bytes) is in
     let framed = ap (λ (p : Contents). p.frames.framed) is in
     let written = ap (λ (p : Contents). p.frames.written) is in record {
       whole = whole_heap h page high;
       adds_up = adds_up;
       few_pages = omega (arith, no_size h);
-      table = record { len = len; each = λ access p lt. ap (allows access) (none p) ∙ nothing_allowed access ∙ sym (heap_permits access h (4096 * p)) };
+      table = record { each = λ access p lt. ap (λ (l : List Rights). allows access (get_or l p no_rights)) none ∙ nothing_allowed access ∙ sym (heap_permits access h (4096 * p)) };
       pages_len = ap length bytes ∙ length-flat (λ _. 0);
       rest_zero = λ a _. zeros pages.flat_bytes bytes a;
       framed_len = ap length framed ∙ length-unmarked (2 ^ 20);

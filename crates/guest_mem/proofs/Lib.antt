@@ -17,3 +17,4 @@ pub mod Enough
 pub mod Few
 pub mod Ascending
 pub mod Kept
+pub mod Freezing

@@ -274,9 +274,9 @@ pub sound_cut : (xs : List Area) (rights new_rights : List Rights) (old new : Co
     → ((q : ℕ) → get_or new.flat_bytes q 0 ≡ cond (is_cut from to xs q) 0 (get_or old.flat_bytes q 0)) → length new.flat_bytes ≡ 2 ^ 32
     → ((page : ℕ) → get_or new.frames.framed page false ≡ (not (is_cut from to xs (4096 * page)) && get_or old.frames.framed page false)) → length new.frames.framed ≡ length old.frames.framed
     → new.frames.written ≡ old.frames.written → (AddUp old.frames → AddUp new.frames)
-    → ((page : ℕ) → get_or new_rights page no_rights ≡ cond (is_cut from to xs (4096 * page)) no_rights (get_or rights page no_rights)) → length new_rights ≡ 2 ^ 20
+    → ((page : ℕ) → get_or new_rights page no_rights ≡ cond (is_cut from to xs (4096 * page)) no_rights (get_or rights page no_rights))
     → IsSound (cut_areas from to xs) new_rights new brk next
-sound_cut xs rights new_rights old new brk next from to sound range bytes len framed framed_len written adds_up each table_len =
+sound_cut xs rights new_rights old new brk next from to sound range bytes len framed framed_len written adds_up each =
     let low = range.low in
     let le = range.order in
     record {
@@ -284,7 +284,6 @@ sound_cut xs rights new_rights old new brk next from to sound range bytes len fr
       adds_up = adds_up sound.adds_up;
       few_pages = let few = sound.few_pages in omega (arith, pages_cut from to xs le, few);
       table = record {
-        len = table_len;
         each = λ access page lt.
             still_allowed access (is_in_range from to (4096 * page)) (is_mapped xs (4096 * page)) (is_permitted access xs (4096 * page)) _ _ (each page) (sound.table.each access page lt) (not_permitted access xs (4096 * page))
             ∙ sym (is_permitted-cut access from to (4096 * page) xs le);

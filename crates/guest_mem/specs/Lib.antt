@@ -3,3 +3,5 @@ pub mod Memory
 pub mod Mapped
 pub mod Sound
 pub mod Code
+pub mod Table
+pub mod Frozen

@@ -24,7 +24,6 @@ no_rights = record { read = false; write = false; execute = false }
 
 -- the table of rights tells of each page what the areas permit
 pub record HasRights (areas : List Area) (rights : List Rights) : Type 0 where
-  pub len : length rights ≡ 2 ^ 20
   pub each : (access : Access) (page : ℕ) → page < 2 ^ 20 → allows access (slice_index_or rights page no_rights) ≡ is_permitted access areas (4096 * page)
 
 -- an area ends at or below where maps start, or stands from there on

@@ -1,6 +1,6 @@
 // The areas of a guest's memory, as a list.
 ghost use Rattle.std.specs.Prelude.{[], ◌∷◌, ◌++◌, ◌≡◌, true, false, MatchOption, ℕ, ◌+◌, ◌*◌, ◌/◌};
-ghost use Rattle.std.specs.Prelude.{◌^◌, ◌<◌, ◌≤◌, length, slice_index_or, slice_set};
+ghost use Rattle.std.specs.Prelude.{IsTrue, ◌↔◌, ◌^◌, ◌<◌, ◌≤◌, length, slice_index_or, slice_set};
 ghost use Rattle.std.specs.List.{IsAfterLastMatch, position_or_len};
 ghost use Rattle.guest_model.specs.Added.{comes_before, mapped_pages};
 ghost use Rattle.guest_model.specs.Areas.{rounded_up};
@@ -89,6 +89,33 @@ fn push_parts(left: &mut ArrayVec<Area, MOST_AREAS>, area: &Area, from: u32, to:
     }
     if to < area.end && left.try_push(Area { start: to, ..*area }).is_err() {
         return false;
+    }
+    true
+}
+
+/// A copy of the areas.
+pub(crate) fn copied(areas: &[Area]) -> ArrayVec<Area, MOST_AREAS>
+    requires { length areas.now ≤ MOST_AREAS }
+    ensures { result.items ≡ areas.now }
+{
+    let mut copy = ArrayVec::new();
+    for area in areas {
+        copy.push(*area);
+    }
+    copy
+}
+
+/// Whether the areas are the same.
+pub(crate) fn same_areas(one: &[Area], other: &[Area]) -> bool
+    ensures { IsTrue result ↔ (one.now ≡ other.now) }
+{
+    if one.len() != other.len() {
+        return false;
+    }
+    for i in 0..one.len() {
+        if one[i] != other[i] {
+            return false;
+        }
     }
     true
 }

@@ -8,7 +8,7 @@ ghost use Rattle.cow_pages.specs.Frames.{AddUp};
 ghost use Rattle.guest_mem.specs.Sound.{is_cut, no_rights};
 ghost use Rattle.guest_model.specs.Valid.{IsWhole};
 
-use crate::rights::{NO_RIGHTS, Rights, fill};
+use crate::rights::{NO_RIGHTS, RightsTable};
 use cow_pages::Pages;
 use guest_model::Area;
 use guest_model::platform::PAGE_SIZE;
@@ -19,13 +19,12 @@ pub(crate) fn clear_range(
     from: u32,
     to: u32,
     pages: &mut Pages,
-    rights: &mut Vec<Rights>,
+    rights: &mut RightsTable,
 )
     requires whole { All IsWhole areas.now }
     requires from { from % PAGE_SIZE ≡ 0 }
     requires to { to % PAGE_SIZE ≡ 0 }
     requires bytes { length pages.old.flat_bytes ≡ 2 ^ 32 }
-    requires table { length rights.old.items ≡ 2 ^ 20 }
     ensures bytes { (q : ℕ) → slice_index pages.new.flat_bytes q
         ≡ (if is_cut from to areas.now q then 0 else slice_index pages.old.flat_bytes q) }
     ensures bytes_len { length pages.new.flat_bytes ≡ 2 ^ 32 }
@@ -34,12 +33,12 @@ pub(crate) fn clear_range(
         ≡ (not (is_cut from to areas.now (PAGE_SIZE * page)) && slice_index_or pages.old.frames.framed page false) }
     ensures framed_len { length pages.new.frames.framed ≡ length pages.old.frames.framed }
     ensures written { pages.new.frames.written ≡ pages.old.frames.written }
+    ensures origin { pages.new.origin ≡ pages.old.origin }
     ensures count { pages.new.frames.count ≡ pages.old.frames.count }
     ensures adds_up { AddUp pages.old.frames → AddUp pages.new.frames }
-    ensures rights { (page : ℕ) → slice_index_or rights.new.items page no_rights
+    ensures rights { (page : ℕ) → slice_index_or rights.new page no_rights
         ≡ (if is_cut from to areas.now (PAGE_SIZE * page) then no_rights
-        else slice_index_or rights.old.items page no_rights) }
-    ensures table_len { length rights.new.items ≡ 2 ^ 20 }
+        else slice_index_or rights.old page no_rights) }
 {
     for area in areas {
         clear_part(area, from, to, pages, rights);
@@ -47,12 +46,11 @@ pub(crate) fn clear_range(
 }
 
 /// The same for one area.
-fn clear_part(area: &Area, from: u32, to: u32, pages: &mut Pages, rights: &mut Vec<Rights>)
+fn clear_part(area: &Area, from: u32, to: u32, pages: &mut Pages, rights: &mut RightsTable)
     requires whole { IsWhole area.now }
     requires from { from % PAGE_SIZE ≡ 0 }
     requires to { to % PAGE_SIZE ≡ 0 }
     requires bytes { length pages.old.flat_bytes ≡ 2 ^ 32 }
-    requires table { length rights.old.items ≡ 2 ^ 20 }
     ensures bytes { (q : ℕ) → slice_index pages.new.flat_bytes q
         ≡ (if is_cut from to (area.now ∷ []) q then 0 else slice_index pages.old.flat_bytes q) }
     ensures bytes_len { length pages.new.flat_bytes ≡ 2 ^ 32 }
@@ -61,17 +59,17 @@ fn clear_part(area: &Area, from: u32, to: u32, pages: &mut Pages, rights: &mut V
         ≡ (not (is_cut from to (area.now ∷ []) (PAGE_SIZE * page)) && slice_index_or pages.old.frames.framed page false) }
     ensures framed_len { length pages.new.frames.framed ≡ length pages.old.frames.framed }
     ensures written { pages.new.frames.written ≡ pages.old.frames.written }
+    ensures origin { pages.new.origin ≡ pages.old.origin }
     ensures count { pages.new.frames.count ≡ pages.old.frames.count }
     ensures adds_up { AddUp pages.old.frames → AddUp pages.new.frames }
-    ensures rights { (page : ℕ) → slice_index_or rights.new.items page no_rights
+    ensures rights { (page : ℕ) → slice_index_or rights.new page no_rights
         ≡ (if is_cut from to (area.now ∷ []) (PAGE_SIZE * page) then no_rights
-        else slice_index_or rights.old.items page no_rights) }
-    ensures table_len { length rights.new.items ≡ 2 ^ 20 }
+        else slice_index_or rights.old page no_rights) }
 {
     let first = area.start.max(from) / PAGE_SIZE;
     let end = (area.end.min(to) / PAGE_SIZE).max(first);
     drop_pages(pages, first, end);
-    fill(rights, first, end, NO_RIGHTS);
+    rights.fill(first, end, NO_RIGHTS);
 }
 
 /// Drops the pages from `from` to below `to`.
@@ -87,6 +85,7 @@ fn drop_pages(pages: &mut Pages, from: u32, to: u32)
         ≡ (not (is_in_range from to page) && slice_index_or pages.old.frames.framed page false) }
     ensures framed_len { length pages.new.frames.framed ≡ length pages.old.frames.framed }
     ensures written { pages.new.frames.written ≡ pages.old.frames.written }
+    ensures origin { pages.new.origin ≡ pages.old.origin }
     ensures count { pages.new.frames.count ≡ pages.old.frames.count }
     ensures adds_up { AddUp pages.old.frames → AddUp pages.new.frames }
 {

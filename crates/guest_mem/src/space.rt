@@ -1,7 +1,7 @@
 // A guest's memory.
 ghost use Rattle.std.specs.Prelude.{[], ◌∷◌, ◌++◌, ◌≡◌, ◌≢◌, ℕ, ◌+◌, ◌-◌, ◌*◌, ◌/◌, ◌%◌, ◌^◌, ◌<◌};
 ghost use Rattle.std.specs.Prelude.{◌≤◌, ◌⊎◌, true, false, length, IfOk, MatchResult, OnOk, OnErr};
-ghost use Rattle.std.specs.Prelude.{Some, None};
+ghost use Rattle.std.specs.Prelude.{Some, None, IsTrue, ◌↔◌};
 ghost use Rattle.guest_model.specs.Areas.{is_mapped, is_permitted, all_permitted};
 ghost use Rattle.guest_model.specs.Areas.{is_range_permitted, holds, wrap};
 ghost use Rattle.guest_model.specs.Bytes.{byte_at, bytes_at, put_bytes};
@@ -14,12 +14,15 @@ ghost use Rattle.guest_model.specs.Valid.{IsSpace};
 ghost use Rattle.cow_pages.specs.Marks.{count_marked};
 ghost use Rattle.guest_model.specs.Range.{range};
 ghost use Rattle.guest_mem.specs.Frames.{HasAllFrames, TakesFrames, GivesFramesBack};
-ghost use Rattle.guest_mem.specs.Memory.{HasFramesWhereWritten, IsApart, free_frames};
+ghost use Rattle.guest_mem.specs.Memory.{HasFramesWhereWritten, IsApart, IsChangedWithin, all_bytes, free_frames};
 
-use crate::areas::{behind_heap, cut_areas, end_at, mapped_pages, place_of, rounded_up};
+use crate::areas::{
+    behind_heap, copied, cut_areas, end_at, mapped_pages, place_of, rounded_up, same_areas,
+};
 use crate::clear::clear_range;
+use crate::frozen::FrozenSpace;
 use crate::number::{low_bytes, number_of};
-use crate::rights::{Rights, fill, no_table};
+use crate::rights::{Rights, RightsTable};
 use arrayvec::ArrayVec;
 use cow_pages::Pages;
 use guest_model::platform::{
@@ -28,9 +31,6 @@ use guest_model::platform::{
 use guest_model::{Access, Area};
 use std::alloc::{AllocError, Global};
 use std::marker::Model;
-
-/// The pages of 4,096 bytes in an address space of 32 bits.
-const PAGES: usize = 1_048_576;
 
 /// An access that the areas do not permit.
 #[derive(Clone, Copy, PartialEq, Eq)]
@@ -44,7 +44,7 @@ pub struct Space {
     heap_break: u32,
     next_map: u32,
     /// For each page, what the areas permit there.
-    rights: Vec<Rights>,
+    rights: RightsTable,
     pages: Pages,
 }
 
@@ -61,9 +61,10 @@ impl Model for Space {
     ghost view = { λ s. record {
       space = space_over s.areas.items s.pages.flat_bytes s.heap_break s.next_map;
       frames = s.pages.frames;
+      origin = s.pages.origin;
     } };
 
-    ghost invariant = { λ s. IsSound s.areas.items s.rights.items s.pages s.heap_break s.next_map };
+    ghost invariant = { λ s. IsSound s.areas.items s.rights s.pages s.heap_break s.next_map };
 }
 
 impl Space {
@@ -74,9 +75,10 @@ impl Space {
         requires high { heap ≤ MAPS_START }
         ensures space { IfOk result (λ m. m.space ≡ empty_space heap) }
         ensures frames { IfOk result (λ m. m.frames ≡ free_frames frames) }
+        ensures origin { IfOk result (λ m. m.origin ≡ all_bytes m.space) }
     {
         let pages = Pages::empty(alloc, frames)?;
-        let rights = no_table(alloc, PAGES)?;
+        let rights = RightsTable::empty(alloc)?;
         let mut areas = ArrayVec::new();
         areas.push(Area {
             start: heap,
@@ -92,6 +94,66 @@ impl Space {
             rights,
             pages,
         })
+    }
+
+    /// The space as it is, which never changes from then on. The space goes on as before, and all its frames
+    /// are free. `Err`, with no change, where memory is lacking.
+    pub fn freeze(&mut self) -> Result<FrozenSpace, AllocError>
+        ensures frozen { IfOk result (λ f. f.space ≡ self.old.space) }
+        ensures changed { IfOk result (λ f. IsChangedWithin f.changed self.old.origin f.space) }
+        ensures space { self.new.space ≡ self.old.space }
+        ensures frames { OnOk result (self.new.frames ≡ free_frames self.old.frames.count) }
+        ensures origin { OnOk result (self.new.origin ≡ all_bytes self.old.space) }
+        ensures unchanged { OnErr result (self.new ≡ self.old) }
+    {
+        let rights = self.rights.share()?;
+        let pages = self.pages.freeze()?;
+        Ok(FrozenSpace {
+            areas: copied(&self.areas),
+            heap_break: self.heap_break,
+            next_map: self.next_map,
+            rights,
+            pages,
+        })
+    }
+
+    /// A space that goes on from a frozen one, with `peak` free frames, so that `peak` pages of it can be
+    /// written. No other fork sees what is written in it.
+    pub fn fork(alloc: Global, from: &FrozenSpace, peak: u32) -> Result<Space, AllocError>
+        ensures space { IfOk result (λ m. m.space ≡ from.now.space) }
+        ensures frames { IfOk result (λ m. m.frames ≡ free_frames peak) }
+        ensures origin { IfOk result (λ m. m.origin ≡ all_bytes from.now.space) }
+    {
+        let rights = RightsTable::over(alloc, &from.rights)?;
+        let pages = Pages::fork(alloc, &from.pages, peak)?;
+        Ok(Space {
+            areas: copied(&from.areas),
+            heap_break: from.heap_break,
+            next_map: from.next_map,
+            rights,
+            pages,
+        })
+    }
+
+    /// Whether the space is that of `end`. Of the bytes only those are compared whose pages were changed since
+    /// the fork from `base`, and those that `end` names as changed.
+    pub fn same_as(&self, base: &FrozenSpace, end: &FrozenSpace) -> bool
+        requires base { self.now.origin ≡ all_bytes base.now.space }
+        requires end { IsChangedWithin end.now.changed (all_bytes base.now.space) end.now.space }
+        ensures { IsTrue result ↔ (self.now.space ≡ end.now.space) }
+    {
+        self.has_layout_of(end) && self.pages.same_as(&base.pages, &end.pages)
+    }
+
+    /// Whether the areas, the end of the heap and the start of the next map are those of `end`.
+    fn has_layout_of(&self, end: &FrozenSpace) -> bool
+        ensures { IsTrue result ↔ ((self.now.space.areas ≡ end.now.space.areas)
+            × (self.now.space.heap_break ≡ end.now.space.heap_break)
+            × (self.now.space.next_map ≡ end.now.space.next_map)) }
+    {
+        self.heap_break == end.heap_break
+            && self.next_map == end.next_map
+            && same_areas(&self.areas, &end.areas)
     }
 
     /// The areas, ordered by start and then by end.
@@ -235,7 +297,7 @@ impl Space {
             → result ≡ is_permitted access self.now.space.areas q }
         ensures below { result ≡ true → page < 0xFFFFF }
     {
-        self.rights[page as usize].allows(access)
+        self.rights.allows(page, access)
     }
 
     /// Whether each of the `size` bytes from `at` on, modulo 2^32, is in an area with the
@@ -286,6 +348,7 @@ impl Space {
             (λ _. write_number self.old.space at size value ≡ None) }
         ensures frames { OnOk result (TakesFrames self.old.frames self.new.frames (range at size ∷ [])) }
         ensures denied { OnErr result (self.new ≡ self.old) }
+        ensures origin { self.new.origin ≡ self.old.origin }
     {
         if !self.allows(Access::Write, at, size) {
             return Err(Denied);
@@ -307,6 +370,7 @@ impl Space {
         ensures space { self.new.space
             ≡ with_bytes self.old.space (put_bytes self.old.space.bytes at bytes.now) }
         ensures frames { TakesFrames self.old.frames self.new.frames (range at (length bytes.now) ∷ []) }
+        ensures origin { self.new.origin ≡ self.old.origin }
     {
         self.store_bytes(at, bytes);
     }
@@ -321,6 +385,7 @@ impl Space {
         ensures space { self.new.space
             ≡ with_bytes self.old.space (put_bytes self.old.space.bytes at bytes.now) }
         ensures frames { TakesFrames self.old.frames self.new.frames (range at (length bytes.now) ∷ []) }
+        ensures origin { self.new.origin ≡ self.old.origin }
     {
         let mut done = 0;
         while done < bytes.len() {
@@ -341,6 +406,7 @@ impl Space {
         ensures space { self.new.space
             ≡ with_bytes self.old.space (put_bytes self.old.space.bytes at bytes.now) }
         ensures frames { TakesFrames self.old.frames self.new.frames (range at (length bytes.now) ∷ []) }
+        ensures origin { self.new.origin ≡ self.old.origin }
     {
         self.pages.write(at / PAGE_SIZE, at % PAGE_SIZE, bytes);
     }
@@ -362,6 +428,7 @@ impl Space {
         ensures space { OnOk result (self.new.space ≡ with_area self.old.space area at bytes.now) }
         ensures frames { self.new.frames ≡ self.old.frames }
         ensures unchanged { OnErr result (self.new ≡ self.old) }
+        ensures origin { self.new.origin ≡ self.old.origin }
     {
         let place = place_of(&self.areas, &area);
         let behind = behind_heap(&self.areas);
@@ -370,8 +437,7 @@ impl Space {
         }
         self.pages.place(at / PAGE_SIZE, at % PAGE_SIZE, bytes)?;
         self.areas.insert(place, area);
-        fill(
-            &mut self.rights,
+        self.rights.fill(
             area.start / PAGE_SIZE,
             area.end / PAGE_SIZE,
             Rights::of(&area),
@@ -387,6 +453,7 @@ impl Space {
         ensures result { result ≡ (grow_of self.old.space to).answer }
         ensures space { self.new.space ≡ (grow_of self.old.space to).space }
         ensures frames { self.new.frames ≡ self.old.frames }
+        ensures origin { self.new.origin ≡ self.old.origin }
     {
         if to < self.heap_break || to > MAPS_START {
             return self.heap_break;
@@ -406,6 +473,7 @@ impl Space {
         requires pages { mapped_pages self.old.space.areas + growth self.old.space to / PAGE_SIZE ≤ MOST_PAGES }
         ensures space { self.new.space ≡ grown self.old.space to }
         ensures frames { self.new.frames ≡ self.old.frames }
+        ensures origin { self.new.origin ≡ self.old.origin }
     {
         let place = behind_heap(&self.areas) - 1;
         let heap = self.areas[place];
@@ -415,8 +483,7 @@ impl Space {
             ..heap
         };
         end_at(&mut self.areas, place, added.end);
-        fill(
-            &mut self.rights,
+        self.rights.fill(
             added.start / PAGE_SIZE,
             added.end / PAGE_SIZE,
             Rights::of(&added),
@@ -432,6 +499,7 @@ impl Space {
         ensures result { result ≡ (map_of self.old.space len prot flags).answer }
         ensures space { self.new.space ≡ (map_of self.old.space len prot flags).space }
         ensures frames { self.new.frames ≡ self.old.frames }
+        ensures origin { self.new.origin ≡ self.old.origin }
     {
         if len == 0 || flags & 0x33 != 0x22 || prot & 4 != 0 {
             return failure(EINVAL);
@@ -459,6 +527,7 @@ impl Space {
         ensures result { result ≡ self.old.space.next_map }
         ensures space { self.new.space ≡ mapped self.old.space size prot }
         ensures frames { self.new.frames ≡ self.old.frames }
+        ensures origin { self.new.origin ≡ self.old.origin }
     {
         let start = self.next_map;
         let end = start + size;
@@ -471,12 +540,8 @@ impl Space {
         };
         let place = place_of(&self.areas, &area);
         self.areas.insert(place, area);
-        fill(
-            &mut self.rights,
-            start / PAGE_SIZE,
-            end / PAGE_SIZE,
-            Rights::of(&area),
-        );
+        self.rights
+            .fill(start / PAGE_SIZE, end / PAGE_SIZE, Rights::of(&area));
         self.next_map = end;
         start
     }
@@ -491,6 +556,7 @@ impl Space {
         ensures frames { result ≡ 0
             → GivesFramesBack self.new.space.areas self.old.frames self.new.frames }
         ensures kept { result ≢ 0 → self.new ≡ self.old }
+        ensures origin { self.new.origin ≡ self.old.origin }
     {
         if at % PAGE_SIZE != 0 || len == 0 {
             return failure(EINVAL);
@@ -516,6 +582,7 @@ impl Space {
         requires high { to ≤ MAPS_END }
         ensures space { self.new.space ≡ without_range self.old.space from to }
         ensures frames { GivesFramesBack self.new.space.areas self.old.frames self.new.frames }
+        ensures origin { self.new.origin ≡ self.old.origin }
     {
         clear_range(&self.areas, from, to, &mut self.pages, &mut self.rights);
         self.areas = left;

@@ -33,6 +33,7 @@ impl Model for Guest {
     ghost view = { λ g. record {
       machine = record { pc = g.pc; registers = g.registers; space = g.memory.space; fresh = g.fresh };
       frames = g.memory.frames;
+      origin = g.memory.origin;
     } };
 
     ghost invariant = { λ g. slice_index g.registers 0 ≡ 0 };

@@ -11,8 +11,8 @@ invariant-loop-area l = record {
   framed : (page : ℕ) → get_or l.pages.frames.framed page false ≡ (not (is_cut l.from l.to (take l.area-index l.areas) (4096 * page)) && get_or l.initial.pages.frames.framed page false);
   framed_len : length l.pages.frames.framed ≡ length l.initial.pages.frames.framed;
   written : l.pages.frames.written ≡ l.initial.pages.frames.written;
+  origin : l.pages.origin ≡ l.initial.pages.origin;
   count : l.pages.frames.count ≡ l.initial.pages.frames.count;
   adds_up : AddUp l.initial.pages.frames → AddUp l.pages.frames;
-  rights : (page : ℕ) → get_or l.rights.items page no_rights ≡ cond (is_cut l.from l.to (take l.area-index l.areas) (4096 * page)) no_rights (get_or l.initial.rights.items page no_rights);
-  table_len : length l.rights.items ≡ 2 ^ 20;
+  rights : (page : ℕ) → get_or l.rights page no_rights ≡ cond (is_cut l.from l.to (take l.area-index l.areas) (4096 * page)) no_rights (get_or l.initial.rights page no_rights);
 }

@@ -11,6 +11,7 @@ invariant-loop-page l = record {
   framed : (page : ℕ) → get_or l.pages.frames.framed page false ≡ (not (is_in_range l.from l.page page) && get_or l.initial.pages.frames.framed page false);
   framed_len : length l.pages.frames.framed ≡ length l.initial.pages.frames.framed;
   written : l.pages.frames.written ≡ l.initial.pages.frames.written;
+  origin : l.pages.origin ≡ l.initial.pages.origin;
   count : l.pages.frames.count ≡ l.initial.pages.frames.count;
   adds_up : AddUp l.initial.pages.frames → AddUp l.pages.frames;
 }

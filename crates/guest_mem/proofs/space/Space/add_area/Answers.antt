@@ -18,7 +18,7 @@ added c =
       few = omega (arith, c.requires.pages, ap (λ m. mapped_pages m.space.areas) c.self.view_is);
     } in
     let before : c.args.area.end ≤ MAPS_START → c.place_of-place.result < c.behind_heap-behind.result = λ le. grind (arith, c.else-area-le-MAPS_START.either) in
-    added_new c.args.area c.self.inside.areas.items c.self.inside.rights.items c.self.inside.pages _ _ c.place_of-place.result c.behind_heap-behind.result c.self.invariant new
+    added_new c.args.area c.self.inside.areas.items c.self.inside.rights c.self.inside.pages _ _ c.place_of-place.result c.behind_heap-behind.result c.self.invariant new
     (rw c.deref-2.ensures.0 at c.behind_heap-behind.ensures.last) (omega (arith, c.behind_heap-behind.ensures.within, ap length c.deref-2.ensures.0)) before
 
 pub place-requires-clause-unwritten : goal.place-requires-clause-unwritten
@@ -34,9 +34,9 @@ pub invariant_of-self-2 : goal.invariant_of-self-2
 invariant_of-self-2 c =
     let unwritten = ap (λ m. count_marked m.frames.written) c.self.view_is ∙ c.requires.unwritten in
     rw c.insert.ensures.items
-    (sound_added c.args.area c.self.inside.areas.items _ c.self.inside.rights.items _ c.self.inside.pages _ _ _ _ _ c.args.at c.args.bytes.now c.of.result
+    (sound_added c.args.area c.self.inside.areas.items _ c.self.inside.rights _ c.self.inside.pages _ _ _ _ _ c.args.at c.args.bytes.now c.of.result
     c.self.invariant (added c) (record { from = c.requires.from; within = c.requires.within }) (λ page _. none_marked c.self.inside.pages.frames.written unwritten page)
-    (rw (in_page c.args.at) at c.in_ok-place.ensures.bytes) c.in_ok-place.ensures.len c.place.ensures.frames c.of.ensures c.fill.ensures.len c.fill.ensures.rights)
+    (rw (in_page c.args.at) at c.in_ok-place.ensures.bytes) c.in_ok-place.ensures.len c.place.ensures.frames c.of.ensures c.fill.ensures)
 
 pub returns-clause-space : goal.returns-clause-space
 returns-clause-space c =

@@ -22,10 +22,10 @@ pub invariant_of-self : goal.invariant_of-self
 invariant_of-self c =
     let area = map_area c.self.inside.next_map c.args.size c.args.prot in
     rw c.insert.ensures.items
-    (sound_added area c.self.inside.areas.items _ c.self.inside.rights.items _ c.self.inside.pages c.self.inside.pages _ _ _ _ c.self.inside.next_map [] c.of.result
+    (sound_added area c.self.inside.areas.items _ c.self.inside.rights _ c.self.inside.pages c.self.inside.pages _ _ _ _ c.self.inside.next_map [] c.of.result
     c.self.invariant (map_added area c.self.inside.areas.items _ c.self.inside.pages _ _ c.place_of-place.result c.self.invariant (is_new c)) (record { from = omega arith; within = omega arith })
     (map_unwritten area c.self.inside.areas.items _ c.self.inside.pages _ _ c.self.invariant (is_new c))
-    (none_given c.self.inside.next_map c.self.inside.pages.flat_bytes) c.self.invariant.pages_len refl c.of.ensures c.fill.ensures.len c.fill.ensures.rights)
+    (none_given c.self.inside.next_map c.self.inside.pages.flat_bytes) c.self.invariant.pages_len refl c.of.ensures c.fill.ensures)
 
 pub returns-clause-space : goal.returns-clause-space
 returns-clause-space c =

@@ -32,12 +32,12 @@ invariant_of-self c =
     rw (sym (ap (λ m. m.space.areas) c.self.view_is), sym (ap (λ m. m.space.heap_break) c.self.view_is)) at c.requires.pages in
     let x = get_or c.self.inside.areas.items (c.behind_heap-place.result - 1) no_area in
     rw (c.end_at.ensures no_area, c.rounded_up.ensures)
-    (sound_added (gained x (rounded_up c.args.to)) c.self.inside.areas.items _ c.self.inside.rights.items _ c.self.inside.pages c.self.inside.pages _ _ _ _ x.end [] c.of.result
+    (sound_added (gained x (rounded_up c.args.to)) c.self.inside.areas.items _ c.self.inside.rights _ c.self.inside.pages c.self.inside.pages _ _ _ _ x.end [] c.of.result
     c.self.invariant (grown_added c.self.inside.areas.items _ c.self.inside.pages _ _ c.args.to c.behind_heap-place.result no_area c.self.invariant heap order c.requires.high few)
     (record { from = omega arith; within = let le = rounded_order c.self.inside.heap_break c.args.to order in let ends = heap.ends in omega arith })
     (gained_unwritten x c.self.inside.areas.items _ c.self.inside.pages _ _ c.args.to c.self.invariant heap.ends c.requires.high)
     (none_given x.end c.self.inside.pages.flat_bytes) c.self.invariant.pages_len refl
-    (rw (c.deref-2.ensures.0, c.rounded_up.ensures) at c.of.ensures) c.fill.ensures.len (rw (c.deref-2.ensures.0, c.rounded_up.ensures) at c.fill.ensures.rights))
+    (rw (c.deref-2.ensures.0, c.rounded_up.ensures) at c.of.ensures) (rw (c.deref-2.ensures.0, c.rounded_up.ensures) at c.fill.ensures))
 
 pub returns-clause-space : goal.returns-clause-space
 returns-clause-space c =

@@ -11,10 +11,10 @@ pub invariant_of-self : goal.invariant_of-self
 invariant_of-self c =
     let range : IsMapRange c.args.from c.args.to = record { from_page = c.requires.from; to_page = c.requires.to; low = c.requires.low; order = c.requires.order; high = c.requires.high } in
     rw (left c)
-    (sound_cut c.self.inside.areas.items c.self.inside.rights.items _ c.self.inside.pages _ _ _ c.args.from c.args.to c.self.invariant range
+    (sound_cut c.self.inside.areas.items c.self.inside.rights _ c.self.inside.pages _ _ _ c.args.from c.args.to c.self.invariant range
     (rw c.deref.ensures.0 at c.clear_range.ensures.bytes) c.clear_range.ensures.bytes_len
     (rw c.deref.ensures.0 at c.clear_range.ensures.framed) c.clear_range.ensures.framed_len c.clear_range.ensures.written c.clear_range.ensures.adds_up
-    (rw c.deref.ensures.0 at c.clear_range.ensures.rights) c.clear_range.ensures.table_len)
+    (rw c.deref.ensures.0 at c.clear_range.ensures.rights))
 
 pub returns-clause-space : goal.returns-clause-space
 returns-clause-space c =
@@ -27,7 +27,7 @@ returns-clause-frames c =
     rw (left c, ← c.self.view_is)
     (record {
       framed =
-          framed_cut c.self.inside.areas.items c.self.inside.rights.items c.self.inside.pages c.clear_range.new.pages _ _ c.args.from c.args.to c.self.invariant c.requires.order
+          framed_cut c.self.inside.areas.items c.self.inside.rights c.self.inside.pages c.clear_range.new.pages _ _ c.args.from c.args.to c.self.invariant c.requires.order
           (rw c.deref.ensures.0 at c.clear_range.ensures.framed) c.clear_range.ensures.framed_len;
       written = c.clear_range.ensures.written;
       free = c.clear_range.ensures.adds_up c.self.invariant.adds_up;

@@ -1,4 +1,4 @@
-use Rattle.std.proofs.Common.{◌+◌, ◌-◌, ◌∙◌, sym, ap, length, take, drop, arith}
+use Rattle.std.proofs.Common.{◌+◌, ◌-◌, ◌∙◌, refl, sym, ap, length, take, drop, arith}
 use Rattle.guest_model.specs.Bytes.{put_bytes}
 use Rattle.guest_model.specs.Space.{Space, with_bytes}
 use Rattle.guest_mem.proofs.Ranges.{took_one}
@@ -10,6 +10,7 @@ loop-done-init c = record {
   in_bytes = omega arith;
   space = ap (with_bytes c.args.self.now.space) (sym (put_none c.args.self.now.space.bytes c.args.at));
   frames = takes_nothing c.args.self.now.frames c.args.at;
+  origin = refl;
 }
 
 pub store_in_page-requires-clause-frames : goal.store_in_page-requires-clause-frames
@@ -29,6 +30,7 @@ loop-done-preserved c =
       frames =
           takes_part c.args.self.now.frames c.loop-done.self.frames _ c.args.at c.loop-done.done c.min-part.result _
           (length_part c.args.bytes.now c.loop-done.done c.min-part.result (omega arith)) c.loop-done.invariant.frames (took_one _ _ _ _ c.store_in_page.ensures.frames);
+      origin = c.store_in_page.ensures.origin ∙ c.loop-done.invariant.origin;
     }
 
 pub returns-clause-frames : goal.returns-clause-frames

@@ -10,6 +10,7 @@ invariant-loop-done l = record {
   in_bytes : l.done ≤ length l.bytes;
   space : l.self.space ≡ with_bytes l.initial.self.space (put_bytes l.initial.self.space.bytes l.at (take l.done l.bytes));
   frames : TakesAt l.initial.self.frames l.self.frames l.at l.done;
+  origin : l.self.origin ≡ l.initial.self.origin;
 }
 
 abbrev pub decreases-loop-done : goal.decreases-loop-done
