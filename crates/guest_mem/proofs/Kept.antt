@@ -1,22 +1,27 @@
 -- Code that stays decoded while the memory changes.
-use Rattle.std.proofs.Common.{◌≡◌, ℕ, ◌+◌, ◌-◌, ◌*◌, ◌/◌, ◌^◌, ◌<◌, ◌≤◌, ◌&&◌, ◌||◌, true, false, cond, Bool, List, [], ◌∷◌, length, get_or, refl, sym, ap, ◌∙◌, arith, Some, None}
+use Rattle.std.proofs.Common.{◌≡◌, ℕ, zero, suc, ◌+◌, ◌-◌, ◌*◌, ◌/◌, ◌^◌, ◌<◌, ◌≤◌, ◌&&◌, ◌||◌, true, false, cond, Bool, List, [], ◌∷◌, length, get_or, refl, sym, ap, ◌∙◌, inl, inr, arith, Option, Some, None}
 use Rattle.std.specs.Prelude.{not}
 use Rattle.std.specs.List.{All, range_with_len}
-use Rattle.std.proofs.lemmas.Bool.{true≢false}
+use Rattle.std.proofs.lemmas.Bool.{cases_Bool, true≢false}
 use Rattle.std.proofs.lemmas.Bool.Decides.{nat_tests}
+use Rattle.std.proofs.lemmas.List.Elements.{All-append}
 use Rattle.std.proofs.lemmas.List.FromFn.{get_or-map-range_with_len, length-map-range_with_len}
 use Rattle.rv_isa.specs.Decoded.{decoded}
-use Rattle.guest_model.specs.Areas.{is_mapped, holds, permits, is_permitted}
-use Rattle.guest_model.specs.Bytes.{number_of}
+use Rattle.rv_isa.specs.Table.{Fields}
+use Rattle.guest_model.specs.Areas.{all_permitted, is_mapped, holds, permits, is_permitted, wrap}
+use Rattle.guest_model.specs.Bytes.{byte_at, bytes_at, number_of}
+use Rattle.guest_model.specs.Space.{Space, read_number}
 use Rattle.guest_model.specs.Maps.{is_in_range, cut_areas}
 use Rattle.guest_model.specs.declared.Area.{Area}
 use Rattle.guest_model.specs.declared.Access.TheVariants.{Write, Execute}
 use Rattle.guest_model.specs.declared.platform.TheConstants.{MAPS_START}
 use Rattle.frame_pool.specs.Bytes.{is_among}
-use Rattle.guest_mem.specs.Code.{CodeFields, IsFixed, IsKept, code_of, kept_word, word_in}
+use Rattle.guest_mem.specs.Code.{CodeFields, IsFixed, IsKept, IsWordAmong, code_of, codes_with, holds_code, word_at, word_in}
+use Rattle.guest_mem.specs.Mapped.{space_over}
 use Rattle.guest_mem.specs.Sound.{is_cut}
 use Rattle.guest_mem.proofs.Added.{IsAdded, IsWithin, among_held, not_permitted}
-use Rattle.guest_mem.proofs.Permitted.{mapped_if_permitted}
+use Rattle.guest_mem.proofs.Mapped.{byte_of_space}
+use Rattle.guest_mem.proofs.Permitted.{all_permitted_from, mapped_if_permitted}
 use Rattle.guest_mem.proofs.Unmapped.{IsMapRange, is_permitted-cut}
 
 -- an address of code keeps its byte, and stays fixed
@@ -172,3 +177,56 @@ kept_added x xs ys old new brk next new_brk new_next at given kind added inside 
           get_or-map-range_with_len (λ j. decoded (word_in given (4 * j))) 0 count k k None few (omega arith)
           ∙ ap decoded (sym (word_given old new at given (4 * k) (omega (arith, few)) is));
     }
+
+code_area : (x : Area) → holds_code x ≡ true → IsCodeArea x
+code_area x h = record { executed = grind (arith, nat_tests); unwritten = grind (arith, nat_tests); low = grind (arith, nat_tests) }
+
+all_one : (P : CodeFields → Type 0) (x : CodeFields) → P x → All P (x ∷ [])
+all_one P x h zero d lt = h
+all_one P x h (suc k) d lt = absurd (omega arith)
+
+-- the code that is kept once an area is added
+pub kept_with : (x : Area) (xs ys : List Area) (old new : List ℕ) (brk next new_brk new_next at : ℕ) (given : List ℕ) (codes : List CodeFields)
+    → IsAdded x xs ys brk next new_brk new_next → IsWithin x at (length given)
+    → ((q : ℕ) → get_or new q 0 ≡ cond (is_among at (length given) q) (get_or given (q - at) 0) (get_or old q 0))
+    → All (IsKept xs old) codes → All (IsKept ys new) (codes_with x at given codes)
+kept_with x xs ys old new brk next new_brk new_next at given codes added inside is all =
+    let before = all_stay xs ys old new codes (stays_added x xs ys old new brk next new_brk new_next at given added inside is) all in
+    elim (cases_Bool (holds_code x)) [
+      | inl h ↦
+          rw h (All-append (IsKept ys new) codes (code_of at given ∷ []) before
+          (all_one (IsKept ys new) (code_of at given) (kept_added x xs ys old new brk next new_brk new_next at given (code_area x h) added inside is)))
+      | inr h ↦ rw h before
+    ]
+
+word_over : (s : Space) (all : List ℕ) (a : ℕ) → ((q : ℕ) → byte_at s.bytes q ≡ get_or all q 0) → a + 4 ≤ 2 ^ 32 → number_of (bytes_at s.bytes a 4) ≡ word_in all a
+unfolding word_in
+word_over s all a holds le =
+    let first : wrap (a + 0) ≡ a = omega arith in
+    let second : wrap (a + 1) ≡ a + 1 = omega arith in
+    let third : wrap (a + 2) ≡ a + 2 = omega arith in
+    let fourth : wrap (a + 3) ≡ a + 3 = omega arith in
+    rw (first, second, third, fourth, holds a, holds (a + 1), holds (a + 2), holds (a + 3)) refl
+
+-- a word that is kept is that of the space
+pub word_kept : (s : Space) (areas : List Area) (all : List ℕ) (brk next a : ℕ) (codes : List CodeFields) (word : Option Fields)
+    → space_over areas all brk next ≡ s → ((q : ℕ) → is_mapped areas q ≡ false → get_or all q 0 ≡ 0)
+    → All (IsKept areas all) codes → IsWordAmong codes a word → a < 2 ^ 32 → word_at s a ≡ Some word
+unfolding read_number
+word_kept s areas all brk next a codes word is rest kept found fits =
+    let code = get_or codes found.j (record { start = 0; words = [] }) in
+    let here = kept found.j (record { start = 0; words = [] }) found.within in
+    let there = found.at (record { start = 0; words = [] }) in
+    let end = here.end in
+    let k = there.k in
+    let within = there.within in
+    let place : a ≡ code.start + 4 * k = omega (arith, there.at, end, within) in
+    let permitted : all_permitted Execute s.areas a 4 ≡ true =
+    all_permitted_from Execute s.areas a 4 (λ i lt.
+    let same : wrap (a + i) ≡ a + i = omega (arith, place, end, within, lt) in
+    ap (is_permitted Execute s.areas) same
+    ∙ ap (λ (t : Space). is_permitted Execute t.areas (a + i)) (sym is)
+    ∙ (here.fixed (a + i) (omega (arith, place)) (omega (arith, place, within, lt))).executed) in
+    rw permitted (ap Some (
+    ap decoded (word_over s all a (byte_of_space s areas all brk next is rest) (omega (arith, place, end, within)) ∙ ap (word_in all) place)
+    ∙ sym (here.decodes k within) ∙ there.is))

@@ -175,8 +175,10 @@ pub range_end : (access : Access) (areas : List Area) (a n : ℕ) → is_range_p
 unfolding is_range_permitted
 range_end access areas a n h = leb-true (a + n) (2 ^ 32) (and_parts (nat_le (a + n) (2 ^ 32)) (all_permitted access areas a n) h).0
 
-pub below_mapped : (access : Access) (areas : List Area) (a n i : ℕ) → all_permitted access areas a n ≡ true → a + n ≤ 2 ^ 32 → i < n → is_mapped areas (a + i) ≡ true
-below_mapped access areas a n i h end lt = ap (is_mapped areas) (sym (unwrapped (a + i) (omega arith))) ∙ all_mapped access areas a n h i lt
+pub below_permitted : (access : Access) (areas : List Area) (a n i : ℕ) → all_permitted access areas a n ≡ true → a + n ≤ 2 ^ 32 → i < n → is_permitted access areas (a + i) ≡ true
+below_permitted access areas a n i h end lt = ap (is_permitted access areas) (sym (unwrapped (a + i) (omega arith))) ∙ permitted_at access areas a n i h lt
 
-pub range_below_mapped : (access : Access) (areas : List Area) (a n i : ℕ) → is_range_permitted access areas a n ≡ true → i < n → is_mapped areas (a + i) ≡ true
-range_below_mapped access areas a n i h lt = ap (is_mapped areas) (sym (unwrapped (a + i) (let end = range_end access areas a n h in omega arith))) ∙ range_mapped access areas a n h i lt
+pub range_below_permitted : (access : Access) (areas : List Area) (a n i : ℕ) → is_range_permitted access areas a n ≡ true → i < n → is_permitted access areas (a + i) ≡ true
+unfolding is_range_permitted
+range_below_permitted access areas a n i h lt =
+    below_permitted access areas a n i (and_parts (nat_le (a + n) (2 ^ 32)) (all_permitted access areas a n) h).1 (range_end access areas a n h) lt

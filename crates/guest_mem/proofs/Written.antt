@@ -4,8 +4,9 @@ use Rattle.std.proofs.Math.ListN.{set, length-set}
 use Rattle.std.specs.List.{All}
 use Rattle.std.proofs.lemmas.Bool.{cases_eq, cases_Bool, true≢false}
 use Rattle.std.proofs.lemmas.Bool.Decides.{nat_tests}
-use Rattle.guest_model.specs.Areas.{is_mapped, wrap}
+use Rattle.guest_model.specs.Areas.{is_mapped, is_permitted, wrap}
 use Rattle.guest_model.specs.declared.Area.{Area}
+use Rattle.guest_model.specs.declared.Access.{Access}
 use Rattle.cow_pages.specs.Contents.{Contents}
 use Rattle.cow_pages.specs.Frames.{AddUp, TakesFrame}
 use Rattle.frame_pool.specs.Bytes.{is_among}
@@ -13,7 +14,7 @@ use Rattle.guest_mem.specs.Frames.{frames_for, marked_for}
 use Rattle.guest_mem.specs.Sound.{IsSound}
 use Rattle.guest_model.specs.Valid.{IsWhole}
 use Rattle.guest_mem.specs.declared.rights.Rights.{Rights}
-use Rattle.guest_mem.proofs.Permitted.{mapped_page}
+use Rattle.guest_mem.proofs.Permitted.{mapped_page, permitted_page}
 use Rattle.guest_mem.proofs.Taken.{marked_for-one, frames_for-one}
 
 not_wrapped : (a : ℕ) → a < 2 ^ 32 → wrap a ≡ a
@@ -49,6 +50,10 @@ among_page a n q within h =
 pub mapped_among : (areas : List Area) (a n : ℕ) → All IsWhole areas → is_mapped areas a ≡ true → a % 4096 + n ≤ 4096 → (q : ℕ) → is_among a n q ≡ true → is_mapped areas q ≡ true
 mapped_among areas a n whole here within q h =
     mapped_page areas whole q ∙ ap (λ p. is_mapped areas (4096 * p)) (among_page a n q within h) ∙ sym (mapped_page areas whole a) ∙ here
+
+pub permitted_among : (access : Access) (areas : List Area) (a n : ℕ) → All IsWhole areas → is_permitted access areas a ≡ true → a % 4096 + n ≤ 4096 → (q : ℕ) → is_among a n q ≡ true → is_permitted access areas q ≡ true
+permitted_among access areas a n whole here within q h =
+    permitted_page access areas whole q ∙ ap (λ p. is_permitted access areas (4096 * p)) (among_page a n q within h) ∙ sym (permitted_page access areas whole a) ∙ here
 
 unmapped_still : (t : Bool) (m : Bool) (x y : ℕ) → (t ≡ true → m ≡ true) → m ≡ false → y ≡ 0 → cond t x y ≡ 0
 unmapped_still true m x y there none zero = absurd (true≢false (sym (there refl) ∙ none))

@@ -1,13 +1,18 @@
 -- Code that is kept decoded: words that stand one after the other where they may be executed, and no store can change them.
-use Rattle.std.specs.Prelude.{◌≡◌, ℕ, ◌+◌, ◌*◌, ◌/◌, ◌%◌, ◌^◌, ◌<◌, ◌≤◌, true, false, List, [], ◌∷◌, length, map, Option, None, slice_index, slice_index_or}
-use Rattle.std.specs.List.{range_with_len}
+use Rattle.std.specs.Prelude.{◌≡◌, ℕ, ◌+◌, ◌*◌, ◌/◌, ◌%◌, ◌^◌, ◌<◌, ◌≤◌, Bool, ◌&&◌, not, nat_le, true, false, List, [], ◌∷◌, ◌++◌, length, map, if◌then◌else◌, Option, None, slice_index, slice_index_or}
+use Rattle.std.specs.List.{All, range_with_len}
+use Rattle.std.specs.Option.{option_map}
 use Rattle.rv_isa.specs.Decoded.{decoded}
 use Rattle.rv_isa.specs.Table.{Fields}
+use Rattle.cow_pages.specs.Contents.{Contents}
 use Rattle.guest_model.specs.Areas.{is_permitted}
 use Rattle.guest_model.specs.Bytes.{number_of}
+use Rattle.guest_model.specs.Space.{Space, read_number}
 use Rattle.guest_model.specs.declared.Area.{Area}
 use Rattle.guest_model.specs.declared.Access.TheVariants.{Write, Execute}
 use Rattle.guest_model.specs.declared.platform.TheConstants.{MAPS_START}
+use Rattle.guest_mem.specs.Sound.{IsSound}
+use Rattle.guest_mem.specs.declared.rights.Rights.{Rights}
 
 -- what the words from `start` on decode to
 pub record CodeFields : Type 0 where
@@ -41,9 +46,32 @@ pub record IsKept (areas : List Area) (all : List ℕ) (code : CodeFields) : Typ
   pub fixed : (a : ℕ) → code.start ≤ a → a < code.start + 4 * length code.words → IsFixed areas a
   pub decodes : (k : ℕ) → k < length code.words → kept_word code k ≡ decoded (word_in all (code.start + 4 * k))
 
+-- whether an area's bytes are code that no store changes, nor a call
+abbrev pub holds_code : Area → Bool
+holds_code x = x.execute && (not x.write && nat_le x.end MAPS_START)
+
+-- the code that is kept once an area is added with these bytes
+abbrev pub codes_with : Area → ℕ → List ℕ → List CodeFields → List CodeFields
+codes_with x at bytes codes = if holds_code x then codes ++ code_of at bytes ∷ [] else codes
+
 -- the word is that at an address of the code
 pub record IsWordOf (code : CodeFields) (a : ℕ) (word : Option Fields) : Type 0 where
   pub k : ℕ
   pub within : k < length code.words
   pub at : a ≡ (code.start + 4 * k) % 2 ^ 32
   pub is : kept_word code k ≡ word
+
+-- the word is that at an address of one of these
+pub record IsWordAmong (codes : List CodeFields) (a : ℕ) (word : Option Fields) : Type 0 where
+  pub j : ℕ
+  pub within : j < length codes
+  pub at : (d : CodeFields) → IsWordOf (slice_index_or codes j d) a word
+
+-- what the word at an address decodes to, where its bytes may be executed
+abbrev pub word_at : Space → ℕ → Option (Option Fields)
+word_at s a = option_map decoded (read_number Execute s a 4)
+
+-- what holds of the fields of every space with its code
+pub record IsSoundWith (areas : List Area) (rights : List Rights) (pages : Contents) (heap_break next_map : ℕ) (codes : List CodeFields) : Type 0 where
+  pub sound : IsSound areas rights pages heap_break next_map
+  pub code : All (IsKept areas pages.flat_bytes) codes

@@ -1,7 +1,9 @@
 -- What holds of the fields of a frozen memory.
 use Rattle.std.specs.Prelude.{◌^◌, ◌≤◌, length}
+use Rattle.std.specs.List.{All}
 use Rattle.std.specs.Arc.{arc_value}
 use Rattle.cow_pages.specs.Contents.{pages_over}
+use Rattle.guest_mem.specs.Code.{IsKept}
 use Rattle.guest_mem.specs.Mapped.{space_over}
 use Rattle.guest_mem.specs.Memory.{FrozenMemory}
 use Rattle.guest_mem.specs.Sound.{IsSound}
@@ -15,3 +17,4 @@ pub record IsFrozen (s : Inside) : Type 0 where
   -- it is as that of a space of which no page was changed, without frames
   pub sound : IsSound s.areas.items (arc_value s.rights).items (pages_over s.pages.bytes 0) s.heap_break s.next_map
   pub few_rights : length (arc_value s.rights).items ≤ 2 ^ 20
+  pub code : All (IsKept s.areas.items s.pages.bytes) s.code

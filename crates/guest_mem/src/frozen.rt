@@ -2,6 +2,7 @@
 ghost use Rattle.std.specs.Prelude.{◌≡◌};
 ghost use Rattle.guest_model.specs.Bytes.{byte_at};
 
+use crate::code::KeptCode;
 use crate::rights::Rights;
 use arrayvec::ArrayVec;
 use cow_pages::Shared;
@@ -20,6 +21,7 @@ pub struct FrozenSpace {
     /// For each page, what the areas permit there.
     pub(crate) rights: Arc<Vec<Rights>, Global>,
     pub(crate) pages: Shared,
+    pub(crate) code: KeptCode,
 }
 
 impl Model for FrozenSpace {

@@ -11,7 +11,6 @@ mod rights;
 mod space;
 mod threads;
 
-pub use code::Code;
 pub use frozen::FrozenSpace;
 pub use guest_model::{Access, Area};
 pub use space::{Denied, Space};

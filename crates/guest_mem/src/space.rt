@@ -13,6 +13,7 @@ ghost use Rattle.guest_model.specs.Maps.{unmap_of, without_range, cut_areas};
 ghost use Rattle.guest_model.specs.Valid.{IsSpace};
 ghost use Rattle.cow_pages.specs.Marks.{count_marked};
 ghost use Rattle.guest_model.specs.Range.{range};
+ghost use Rattle.guest_mem.specs.Code.{word_at};
 ghost use Rattle.guest_mem.specs.Frames.{HasAllFrames, TakesFrames, GivesFramesBack};
 ghost use Rattle.guest_mem.specs.Memory.{HasFramesWhereWritten, IsApart, IsChangedWithin, all_bytes, free_frames};
 
@@ -20,6 +21,7 @@ use crate::areas::{
     behind_heap, copied, cut_areas, end_at, mapped_pages, place_of, rounded_up, same_areas,
 };
 use crate::clear::clear_range;
+use crate::code::KeptCode;
 use crate::frozen::FrozenSpace;
 use crate::number::{low_bytes, number_of};
 use crate::rights::{Rights, RightsTable};
@@ -29,6 +31,7 @@ use guest_model::platform::{
     EINVAL, ENOMEM, HEAP_START, MAPS_END, MAPS_START, MOST_AREAS, MOST_PAGES, PAGE_SIZE, failure,
 };
 use guest_model::{Access, Area};
+use rv_isa::{Instr, decode};
 use std::alloc::{AllocError, Global};
 use std::marker::Model;
 
@@ -46,6 +49,7 @@ pub struct Space {
     /// For each page, what the areas permit there.
     rights: RightsTable,
     pages: Pages,
+    code: KeptCode,
 }
 
 impl Model for Space {
@@ -56,7 +60,7 @@ impl Model for Space {
     ghost coded = { memory_code };
 
     ghost use Rattle.guest_mem.specs.Mapped.{space_over};
-    ghost use Rattle.guest_mem.specs.Sound.{IsSound};
+    ghost use Rattle.guest_mem.specs.Code.{IsSoundWith};
 
     ghost view = { λ s. record {
       space = space_over s.areas.items s.pages.flat_bytes s.heap_break s.next_map;
@@ -64,7 +68,7 @@ impl Model for Space {
       origin = s.pages.origin;
     } };
 
-    ghost invariant = { λ s. IsSound s.areas.items s.rights s.pages s.heap_break s.next_map };
+    ghost invariant = { λ s. IsSoundWith s.areas.items s.rights s.pages s.heap_break s.next_map s.code };
 }
 
 impl Space {
@@ -93,6 +97,7 @@ impl Space {
             next_map: MAPS_START,
             rights,
             pages,
+            code: KeptCode::none(alloc),
         })
     }
 
@@ -106,6 +111,7 @@ impl Space {
         ensures origin { OnOk result (self.new.origin ≡ all_bytes self.old.space) }
         ensures unchanged { OnErr result (self.new ≡ self.old) }
     {
+        let code = self.code.share()?;
         let rights = self.rights.share()?;
         let pages = self.pages.freeze()?;
         Ok(FrozenSpace {
@@ -114,6 +120,7 @@ impl Space {
             next_map: self.next_map,
             rights,
             pages,
+            code,
         })
     }
 
@@ -124,6 +131,7 @@ impl Space {
         ensures frames { IfOk result (λ m. m.frames ≡ free_frames peak) }
         ensures origin { IfOk result (λ m. m.origin ≡ all_bytes from.now.space) }
     {
+        let code = from.code.share()?;
         let rights = RightsTable::over(alloc, &from.rights)?;
         let pages = Pages::fork(alloc, &from.pages, peak)?;
         Ok(Space {
@@ -132,6 +140,7 @@ impl Space {
             next_map: from.next_map,
             rights,
             pages,
+            code,
         })
     }
 
@@ -238,6 +247,32 @@ impl Space {
             (λ _. read_number Access.Execute self.now.space at 4 ≡ None) }
     {
         self.number(Access::Execute, at, 4)
+    }
+
+    /// The instruction of the word at `at`, or None where no row of the table has the word. Denied
+    /// where one of its bytes may not be executed. Code that no store can change was decoded when it
+    /// was added.
+    #[inline(always)]
+    pub fn instruction_at(&self, at: u32) -> Result<Option<Instr>, Denied>
+        ensures { MatchResult result (λ i. word_at self.now.space at ≡ Some i)
+            (λ _. word_at self.now.space at ≡ None) }
+    {
+        match self.code.at(at) {
+            Some(word) => Ok(word.instr()),
+            None => self.decode_at(at),
+        }
+    }
+
+    /// The same, where the word is not kept decoded.
+    #[inline(never)]
+    fn decode_at(&self, at: u32) -> Result<Option<Instr>, Denied>
+        ensures { MatchResult result (λ i. word_at self.now.space at ≡ Some i)
+            (λ _. word_at self.now.space at ≡ None) }
+    {
+        match self.fetch(at) {
+            Ok(word) => Ok(decode(word)),
+            Err(denied) => Err(denied),
+        }
     }
 
     #[tactic(auto, unfolding(guest_model::specs::Space::read_number))]
@@ -375,12 +410,12 @@ impl Space {
         self.store_bytes(at, bytes);
     }
 
-    /// Stores bytes that are all in areas, page by page.
+    /// Stores bytes that may all be written, page by page.
     #[inline(never)]
     fn store_bytes(&mut self, at: u32, bytes: &[u8])
         requires end { at + length bytes.now ≤ 2 ^ 32 }
-        requires mapped { (i : ℕ) → i < length bytes.now
-            → is_mapped self.old.space.areas (at + i) ≡ true }
+        requires writable { (i : ℕ) → i < length bytes.now
+            → is_permitted Access.Write self.old.space.areas (at + i) ≡ true }
         requires frames { HasAllFrames self.old.frames (range at (length bytes.now) ∷ []) }
         ensures space { self.new.space
             ≡ with_bytes self.old.space (put_bytes self.old.space.bytes at bytes.now) }
@@ -401,7 +436,7 @@ impl Space {
     fn store_in_page(&mut self, at: u32, bytes: &[u8])
         requires some { 0 < length bytes.now }
         requires within { at % PAGE_SIZE + length bytes.now ≤ 4096 }
-        requires mapped { is_mapped self.old.space.areas at ≡ true }
+        requires writable { is_permitted Access.Write self.old.space.areas at ≡ true }
         requires frames { HasAllFrames self.old.frames (range at (length bytes.now) ∷ []) }
         ensures space { self.new.space
             ≡ with_bytes self.old.space (put_bytes self.old.space.bytes at bytes.now) }
@@ -435,7 +470,9 @@ impl Space {
         if area.end <= MAPS_START && behind <= place {
             return Err(AllocError);
         }
+        let code = self.code.with(&area, at, bytes)?;
         self.pages.place(at / PAGE_SIZE, at % PAGE_SIZE, bytes)?;
+        self.code = code;
         self.areas.insert(place, area);
         self.rights.fill(
             area.start / PAGE_SIZE,

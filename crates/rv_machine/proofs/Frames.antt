@@ -1,15 +1,18 @@
 -- The frames that a step takes.
 use Rattle.std.proofs.Common.{◌≡◌, ℕ, ◌+◌, ◌≤◌, Bool, true, List, [], ◌∷◌, refl, ap, sym, subst, ◌∙◌, inl, inr, arith}
 use Rattle.std.specs.Prelude.{◌%◌, ◌==◌, if◌then◌else◌, Option, Some, None}
+
+use Rattle.std.specs.Option.{option_map, unwrap_or}
 use Rattle.rv_isa.specs.Decoded.{decoded}
 use Rattle.rv_isa.specs.Kinds.{ends_block, mem_size}
 use Rattle.rv_isa.specs.Table.{Fields}
 use Rattle.guest_model.specs.Areas.{all_permitted}
-use Rattle.guest_model.specs.Effect.{Effect, Next, Call, Fault, address, effect_by, effect_of, goes_on, rs2_value, stored_by, stores, stores_some}
+use Rattle.guest_model.specs.Effect.{Effect, Next, Call, Fault, address, effect_by, effect_of, effect_of_instruction, effect_of_word, goes_on, rs2_value, stored_by, stores, stores_some}
 use Rattle.guest_model.specs.Machine.{Machine, following}
 use Rattle.guest_model.specs.Range.{Range, range}
 use Rattle.guest_model.specs.Space.{Space, read_number, write_number}
 use Rattle.guest_model.specs.declared.Access.TheVariants.{Execute, Write}
+use Rattle.guest_mem.specs.Code.{word_at}
 use Rattle.guest_mem.specs.Frames.{Frames, HasAllFrames, TakesFrames}
 use Rattle.rv_machine.specs.Guest.{GuestState}
 use Rattle.rv_machine.specs.Step.{Gives}
@@ -39,10 +42,14 @@ stores_at old new i a n v s at size value written is takes =
     let ranges : range a n ∷ [] ≡ range (address old.machine i) (mem_size i.op) ∷ [] = cc in
     rw there (rw is refl, subst (TakesFrames old.frames new.frames) ranges takes)
 
--- the effect of an instruction that was fetched
-pub effect_found : (m : Machine) (word : ℕ) (i : Fields) → read_number Execute m.space m.pc 4 ≡ Some word → decoded word ≡ Some i → effect_of m ≡ effect_by i.op m i
+found_by : (m : Machine) (fetched : Option ℕ) (i : Fields) → option_map decoded fetched ≡ Some (Some i) → effect_of_word m fetched ≡ effect_by i.op m i
+found_by m None i known = absurd (cc)
+found_by m (Some word) i known = ap (effect_of_instruction m) (ap (λ (o : Option (Option Fields)). unwrap_or o None) known)
+
+-- the effect of an instruction that stands at pc
+pub effect_found : (m : Machine) (i : Fields) → word_at m.space m.pc ≡ Some (Some i) → effect_of m ≡ effect_by i.op m i
 unfolding effect_of
-effect_found m word i fetched known = rw (fetched, known) refl
+effect_found m i known = found_by m (read_number Execute m.space m.pc 4) i known
 
 pub has_for_store : (g : GuestState) (i : Fields) (a n : ℕ) → a ≡ address g.machine i → n ≡ mem_size i.op → HasAllFrames g.frames (stored_by (stores g.machine i))
     → all_permitted Write g.machine.space.areas a n ≡ true → HasAllFrames g.frames (range a n ∷ [])

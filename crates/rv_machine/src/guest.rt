@@ -6,9 +6,8 @@ ghost use Rattle.guest_model.specs.Call.{finished};
 ghost use Rattle.rv_machine.specs.Guest.{memory_of};
 ghost use Rattle.rv_machine.specs.Lending.{LendsMemory};
 
-use crate::decoded::DecodedWords;
 use guest_mem::Space;
-use rv_isa::{Instr, decode};
+use rv_isa::Instr;
 use std::marker::Model;
 
 /// A guest's machine. Contracts see it as one value: pc, registers, memory, and whether its last
@@ -19,7 +18,6 @@ pub struct Guest {
     pub(crate) registers: [u32; 32],
     pub(crate) memory: Space,
     pub(crate) fresh: bool,
-    pub(crate) decoded: DecodedWords,
 }
 
 impl Model for Guest {
@@ -66,8 +64,8 @@ impl Guest {
     pub fn peek(&self) -> Option<Instr>
         ensures { result ≡ instruction_at self.now.machine }
     {
-        match self.memory.fetch(self.pc) {
-            Ok(word) => decode(word),
+        match self.memory.instruction_at(self.pc) {
+            Ok(i) => i,
             Err(_) => None,
         }
     }

@@ -1,7 +1,6 @@
 //! A guest: one hart of RV32IM with its memory.
 #![tactic(auto)]
 
-mod decoded;
 mod guest;
 mod load;
 mod stack;

@@ -7,7 +7,6 @@ ghost use Rattle.rv_machine.specs.Load.{area_of, first_break, segments_space};
 ghost use Rattle.rv_machine.specs.Load.{strings_size};
 ghost use Rattle.rv_machine.specs.declared.load.LoadFault.TheVariants.{NoMemory};
 
-use crate::decoded::DecodedWords;
 use crate::guest::Guest;
 use crate::stack::{RANDOM, STACK, first_stack, stack_pointer};
 use elf_load::{Image, Segment};
@@ -64,7 +63,6 @@ impl Guest {
             registers,
             memory: segments_space(alloc, image, frames)?,
             fresh: true,
-            decoded: DecodedWords::new(alloc)?,
         };
         guest.memory.add_area(STACK, pointer, &stack)?;
         Ok(guest)

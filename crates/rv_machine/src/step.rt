@@ -63,13 +63,11 @@ impl Guest {
         requires { HasAllFrames self.old.frames (stored_by (effect_of self.old.machine)) }
         ensures { Gives (effect_of self.old.machine) result self.old self.new }
     {
-        let Ok(word) = self.memory.fetch(self.pc) else {
-            return Stepped::Fault(FaultKind::Access);
-        };
-        let Some(i) = self.decoded.decode(word) else {
-            return Stepped::Fault(FaultKind::Illegal);
-        };
-        self.carry_out(&i)
+        match self.memory.instruction_at(self.pc) {
+            Err(_) => Stepped::Fault(FaultKind::Access),
+            Ok(None) => Stepped::Fault(FaultKind::Illegal),
+            Ok(Some(i)) => self.carry_out(&i),
+        }
     }
 
     // Carries out an instruction. Each load and store has an arm of its own, so that its size is a

@@ -9,12 +9,12 @@ returns-clause-permitted c = λ q e.
     let areas = ap (λ m. m.space.areas) c.self.view_is in
     c.allows.ensures
     ∙ ap (λ p. allows c.args.access (get_or c.self.inside.rights p no_rights)) (sym e)
-    ∙ permitted_by_table c.args.access _ _ q c.self.invariant.whole c.self.invariant.table (omega arith)
+    ∙ permitted_by_table c.args.access _ _ q c.self.invariant.sound.whole c.self.invariant.sound.table (omega arith)
     ∙ ap (λ xs. is_permitted c.args.access xs q) areas
 
 pub returns-clause-below : goal.returns-clause-below
 returns-clause-below c = λ h.
     let page : 4096 * c.args.page / 4096 ≡ c.args.page = omega arith in
-    let permitted = sym (permitted_by_table c.args.access c.self.inside.areas.items c.self.inside.rights (4096 * c.args.page) c.self.invariant.whole c.self.invariant.table (omega arith))
+    let permitted = sym (permitted_by_table c.args.access c.self.inside.areas.items c.self.inside.rights (4096 * c.args.page) c.self.invariant.sound.whole c.self.invariant.sound.table (omega arith))
     ∙ ap (λ p. allows c.args.access (get_or c.self.inside.rights p no_rights)) page ∙ sym c.allows.ensures ∙ h in
-    omega (arith, permitted_below c.args.access c.self.inside.areas.items (4096 * c.args.page) c.self.invariant.whole permitted)
+    omega (arith, permitted_below c.args.access c.self.inside.areas.items (4096 * c.args.page) c.self.invariant.sound.whole permitted)

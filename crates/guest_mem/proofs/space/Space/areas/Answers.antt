@@ -6,7 +6,7 @@ use Rattle.guest_mem.proofs.space.Space.areas.Goals as goal
 
 pub returns-clause-valid : goal.returns-clause-valid
 returns-clause-valid c =
-    let sound = c.self.invariant in
+    let sound = c.self.invariant.sound in
     subst IsSpace (ap (λ m. m.space) c.self.view_is) (record {
       bytes = keys _ _ _ c.self.inside.heap_break c.self.inside.next_map refl;
       whole = sound.whole;

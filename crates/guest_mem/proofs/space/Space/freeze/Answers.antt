@@ -7,18 +7,23 @@ use Rattle.guest_mem.proofs.space.Space.freeze.Goals as goal
 
 sound : (c : goal.After-copied) → IsSound c.copied.result.items (arc_value c.in_ok-rights.rights).items (pages_over c.in_ok-pages.pages.bytes 0) c.self.inside.heap_break c.self.inside.next_map
 sound c =
-    sound_frozen c.self.inside.areas.items _ c.self.inside.rights _ c.self.inside.pages _ _ _ c.self.invariant
+    sound_frozen c.self.inside.areas.items _ c.self.inside.rights _ c.self.inside.pages _ _ _ c.self.invariant.sound
     (c.copied.ensures ∙ c.deref.ensures.0) c.in_ok-rights.ensures.shared (ap (λ s. s.bytes) c.in_ok-pages.ensures.shared)
 
 pub invariant_of-result : goal.invariant_of-result
 invariant_of-result c = record {
   sound = sound c;
+  code =
+      rw (c.in_ok-code.ensures, c.copied.ensures ∙ c.deref.ensures.0, ap (λ s. s.bytes) c.in_ok-pages.ensures.shared) c.self.invariant.code;
   few_rights = let few = c.in_ok-rights.ensures.few in omega (arith, few, ap length c.in_ok-rights.ensures.shared);
 }
 
 pub invariant_of-self-2 : goal.invariant_of-self-2
 invariant_of-self-2 c =
-    rw (c.in_ok-rights.ensures.same, c.in_ok-pages.ensures.pages) (sound_fresh c.self.inside.areas.items c.self.inside.rights c.self.inside.pages _ _ _ c.self.invariant)
+    rw (c.in_ok-rights.ensures.same, c.in_ok-pages.ensures.pages) (record {
+      sound = sound_fresh c.self.inside.areas.items c.self.inside.rights c.self.inside.pages _ _ _ c.self.invariant.sound;
+      code = c.self.invariant.code;
+    })
 
 pub returns-clause-changed : goal.returns-clause-changed
 returns-clause-changed c = λ a none.
@@ -29,4 +34,4 @@ returns-clause-changed c = λ a none.
 pub returns-clause-origin : goal.returns-clause-origin
 returns-clause-origin c =
     ap (λ p. p.origin) c.in_ok-pages.ensures.pages
-    ∙ sym (all_bytes_are c.args.self.now.space c.self.inside.areas.items c.self.inside.pages.flat_bytes _ _ (ap (λ m. m.space) c.self.view_is) c.self.invariant.pages_len c.self.invariant.rest_zero)
+    ∙ sym (all_bytes_are c.args.self.now.space c.self.inside.areas.items c.self.inside.pages.flat_bytes _ _ (ap (λ m. m.space) c.self.view_is) c.self.invariant.sound.pages_len c.self.invariant.sound.rest_zero)

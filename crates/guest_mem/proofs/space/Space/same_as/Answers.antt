@@ -24,7 +24,7 @@ returns-then-has_layout_of c =
     let sound = c.end.invariant.sound in (
       λ h. same_space c.args.self.now.space c.args.end.now.space _ _ _ _ _ _ _ _ mine theirs (c.if-has_layout_of.ensures.0 refl) (c.same_as.ensures.0 h),
       λ same. c.same_as.ensures.1 (
-          sym (all_bytes_are c.args.self.now.space c.self.inside.areas.items c.self.inside.pages.flat_bytes _ _ mine c.self.invariant.pages_len c.self.invariant.rest_zero)
+          sym (all_bytes_are c.args.self.now.space c.self.inside.areas.items c.self.inside.pages.flat_bytes _ _ mine c.self.invariant.sound.pages_len c.self.invariant.sound.rest_zero)
           ∙ ap all_bytes same
           ∙ all_bytes_are c.args.end.now.space c.end.inside.areas.items c.end.inside.pages.bytes _ _ theirs sound.pages_len sound.rest_zero
           ),
