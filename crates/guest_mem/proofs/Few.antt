@@ -1,10 +1,10 @@
 -- As many free frames as suffice for a step.
-use Rattle.std.proofs.Common.{◌≡◌, ℕ, ◌+◌, ◌*◌, ◌/◌, ◌≤◌, ◌&&◌, ◌||◌, Bool, true, false, cond, List, [], ◌∷◌, length, get_or, refl, sym, ap, ◌∙◌, inl, inr, arith}
+use Rattle.std.proofs.Common.{◌≡◌, ℕ, ◌+◌, ◌*◌, ◌/◌, ◌≤◌, ◌&&◌, ◌||◌, Bool, true, false, cond, List, [], ◌∷◌, length, get_or, refl, ap, inl, inr, arith}
 use Rattle.std.specs.Prelude.{min, not, Option, Some, None}
 use Rattle.std.specs.List.{count_by, range_with_len}
 use Rattle.std.specs.Option.{option_map}
 use Rattle.std.proofs.lemmas.List.Sums.{sum_by-cons}
-use Rattle.guest_model.specs.Calls.{Deed, Answers, Takes, Sends, Tells, argument, array_of, call_number, call_numbered, deed_of, row_of, storable, used_ranges}
+use Rattle.guest_model.specs.Calls.{Deed, Answers, Takes, Sends, Tells, call_number, call_numbered, deed_of, row_of, storable, used_ranges}
 use Rattle.guest_model.specs.declared.system_call.SystemCall.{SystemCall}
 use Rattle.guest_model.specs.declared.system_call.SystemCall.TheVariants.{Read, Write, Readv, Writev, ClockGettime64}
 use Rattle.guest_model.proofs.Stored.{stored_is_small}

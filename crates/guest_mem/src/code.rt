@@ -96,12 +96,7 @@ impl KeptCode {
     }
 
     /// The code once an area is added with these bytes.
-    pub(crate) fn with(
-        &self,
-        area: &Area,
-        at: u32,
-        bytes: &[u8],
-    ) -> Result<KeptCode, AllocError>
+    pub(crate) fn with(&self, area: &Area, at: u32, bytes: &[u8]) -> Result<KeptCode, AllocError>
         ensures { IfOk result (λ code. code ≡ codes_with area.now at bytes.now self.now) }
     {
         let mut code = self.share()?;

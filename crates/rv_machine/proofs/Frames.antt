@@ -1,19 +1,18 @@
 -- The frames that a step takes.
-use Rattle.std.proofs.Common.{◌≡◌, ℕ, ◌+◌, ◌≤◌, Bool, true, List, [], ◌∷◌, refl, ap, sym, subst, ◌∙◌, inl, inr, arith}
-use Rattle.std.specs.Prelude.{◌%◌, ◌==◌, if◌then◌else◌, Option, Some, None}
-
+use Rattle.std.proofs.Common.{◌≡◌, ℕ, true, [], ◌∷◌, refl, ap, sym, subst}
+use Rattle.std.specs.Prelude.{Option, Some, None}
 use Rattle.std.specs.Option.{option_map, unwrap_or}
 use Rattle.rv_isa.specs.Decoded.{decoded}
 use Rattle.rv_isa.specs.Kinds.{ends_block, mem_size}
 use Rattle.rv_isa.specs.Table.{Fields}
 use Rattle.guest_model.specs.Areas.{all_permitted}
-use Rattle.guest_model.specs.Effect.{Effect, Next, Call, Fault, address, effect_by, effect_of, effect_of_instruction, effect_of_word, goes_on, rs2_value, stored_by, stores, stores_some}
+use Rattle.guest_model.specs.Effect.{Next, address, effect_by, effect_of, effect_of_instruction, effect_of_word, goes_on, rs2_value, stored_by, stores}
 use Rattle.guest_model.specs.Machine.{Machine, following}
-use Rattle.guest_model.specs.Range.{Range, range}
+use Rattle.guest_model.specs.Range.{range}
 use Rattle.guest_model.specs.Space.{Space, read_number, write_number}
 use Rattle.guest_model.specs.declared.Access.TheVariants.{Execute, Write}
 use Rattle.guest_mem.specs.Code.{word_at}
-use Rattle.guest_mem.specs.Frames.{Frames, HasAllFrames, TakesFrames}
+use Rattle.guest_mem.specs.Frames.{HasAllFrames, TakesFrames}
 use Rattle.rv_machine.specs.Guest.{GuestState}
 use Rattle.rv_machine.specs.Step.{Gives}
 use Rattle.rv_machine.specs.declared.step.Stepped.TheVariants as stepped
@@ -25,22 +24,18 @@ unfolding write_number
 stored_where_permitted m i permitted = rw permitted refl
 
 -- an instruction that stored nothing completed
-pub completes : (old new : GuestState) (next : Machine) → new.machine ≡ next → new.frames ≡ old.frames → Gives (goes_on next) stepped.Next old new
-completes old new next is same = (ap (λ (m : Machine). Next m []) (sym is), takes_none old.frames new.frames same)
-
--- one that goes where the next instruction is, if that is a multiple of 4
-pub completes_at : (old new : GuestState) (next : Machine) (to kind : ℕ) → to % 4 ≡ 0 → new.machine ≡ next → new.frames ≡ old.frames → Gives (if to % 4 == 0 then goes_on next else Fault kind) stepped.Next old new
-completes_at old new next to kind whole is same = rw whole (completes old new next is same)
+pub completes : (old new : GuestState) (next : Machine) → new.machine ≡ next → new.frames ≡ old.frames → new.origin ≡ old.origin → Gives (goes_on next) stepped.Next old new
+completes old new next is same origin = (ap (λ (m : Machine). Next m []) (sym is), (takes_none old.frames new.frames same, origin))
 
 -- a store that is permitted
 pub stores_at : (old new : GuestState) (i : Fields) (a n v : ℕ) (s : Space) → a ≡ address old.machine i → n ≡ mem_size i.op → v ≡ rs2_value old.machine i
     → write_number old.machine.space a n v ≡ Some s → new.machine ≡ record old.machine { pc = following old.machine; space = s; fresh = ends_block i.op }
-    → TakesFrames old.frames new.frames (range a n ∷ []) → Gives (stores old.machine i) stepped.Next old new
-stores_at old new i a n v s at size value written is takes =
+    → TakesFrames old.frames new.frames (range a n ∷ []) → new.origin ≡ old.origin → Gives (stores old.machine i) stepped.Next old new
+stores_at old new i a n v s at size value written is takes origin =
     let there : write_number old.machine.space (address old.machine i) (mem_size i.op) (rs2_value old.machine i) ≡ Some s =
     rw (← at, ← size, ← value) written in
     let ranges : range a n ∷ [] ≡ range (address old.machine i) (mem_size i.op) ∷ [] = cc in
-    rw there (rw is refl, subst (TakesFrames old.frames new.frames) ranges takes)
+    rw there (rw is refl, (subst (TakesFrames old.frames new.frames) ranges takes, origin))
 
 found_by : (m : Machine) (fetched : Option ℕ) (i : Fields) → option_map decoded fetched ≡ Some (Some i) → effect_of_word m fetched ≡ effect_by i.op m i
 found_by m None i known = absurd (cc)

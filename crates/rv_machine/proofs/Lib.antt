@@ -1,3 +1,4 @@
 pub mod Frames
 pub mod Words
 pub mod Segments
+pub mod Running

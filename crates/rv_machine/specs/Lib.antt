@@ -2,3 +2,4 @@ pub mod Load
 pub mod Guest
 pub mod Step
 pub mod Lending
+pub mod Ran

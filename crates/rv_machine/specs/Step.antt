@@ -18,10 +18,12 @@ kind_number Break = breakpoint
 kind_number Misaligned = misaligned
 kind_number Access = access
 
--- The answer tells the effect, and the guest is the machine after it, which took the frames of what was stored. At a call
--- and at a fault it stays as it was.
+-- The answer tells the effect, and the guest is the machine after it, which took the frames of what was stored; its memory
+-- came from the same frozen state. At a call and at a fault it stays as it was.
 abbrev pub Gives : Effect → Stepped → GuestState → GuestState → Type 0
-Gives effect Next old new = (effect ≡ effects.Next new.machine (stored_by effect)) × TakesFrames old.frames new.frames (stored_by effect)
+Gives effect Next old new =
+    (effect ≡ effects.Next new.machine (stored_by effect))
+    × (TakesFrames old.frames new.frames (stored_by effect) × (new.origin ≡ old.origin))
 Gives effect Call old new = (effect ≡ effects.Call) × (new ≡ old)
 Gives effect (Fault kind) old new = (effect ≡ effects.Fault (kind_number kind)) × (new ≡ old)
 

@@ -90,6 +90,7 @@ impl Guest {
     pub fn finish_call(&mut self, answer: u32)
         ensures machine { self.new.machine ≡ finished self.old.machine answer }
         ensures frames { self.new.frames ≡ self.old.frames }
+        ensures origin { self.new.origin ≡ self.old.origin }
     {
         self.registers[10] = answer;
         self.pc = self.pc.wrapping_add(4);

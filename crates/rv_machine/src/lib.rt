@@ -8,4 +8,4 @@ mod step;
 
 pub use guest::Guest;
 pub use load::LoadFault;
-pub use step::{End, FaultKind, Stepped};
+pub use step::{End, FaultKind, Ran, Stepped};

@@ -7,6 +7,7 @@ ghost use Rattle.guest_model.specs.Effect.{stores};
 ghost use Rattle.guest_model.specs.Machine.{following};
 ghost use Rattle.guest_mem.specs.Frames.{HasAllFrames};
 ghost use Rattle.rv_isa.specs.Kinds.{mem_size};
+ghost use Rattle.rv_machine.specs.Ran.{HasFramesFor, HasRun};
 ghost use Rattle.rv_machine.specs.Step.{Gives, status_of};
 
 use crate::guest::Guest;
@@ -31,6 +32,13 @@ pub enum Stepped {
     Next,
     Call,
     Fault(FaultKind),
+}
+
+/// How many steps completed, and what the last one that was tried answered.
+#[derive(Clone, Copy, PartialEq, Eq)]
+pub struct Ran {
+    pub completed: u64,
+    pub last: Stepped,
 }
 
 /// How a run ends.
@@ -58,8 +66,53 @@ impl End {
 #[tactic(auto, using(guest_mem::proofs::Ranges::takes_none))]
 impl Guest {
     /// Tries the instruction at pc. Two free frames always suffice.
-    #[tactic(auto, unfolding(guest_model::specs::Effect::effect_of))]
     pub fn step(&mut self) -> Stepped
+        requires { HasAllFrames self.old.frames (stored_by (effect_of self.old.machine)) }
+        ensures { Gives (effect_of self.old.machine) result self.old self.new }
+    {
+        self.try_step()
+    }
+
+    /// Makes at most `steps` steps. It stops before a call or a fault, and behind a step after which
+    /// more than `pages` pages are written.
+    pub fn run(&mut self, steps: u64, pages: u32) -> Ran
+        requires { HasFramesFor pages self.old.frames }
+        ensures { HasRun steps pages self.old self.new result }
+    {
+        let _written = self.memory.written();
+        for completed in 0..steps {
+            match self.try_step() {
+                Stepped::Next => {
+                    if self.memory.written() > pages {
+                        return Ran {
+                            completed: completed + 1,
+                            last: Stepped::Next,
+                        };
+                    }
+                }
+                Stepped::Call => {
+                    return Ran {
+                        completed,
+                        last: Stepped::Call,
+                    };
+                }
+                Stepped::Fault(kind) => {
+                    return Ran {
+                        completed,
+                        last: Stepped::Fault(kind),
+                    };
+                }
+            }
+        }
+        Ran {
+            completed: steps,
+            last: Stepped::Next,
+        }
+    }
+
+    #[inline(always)]
+    #[tactic(auto, unfolding(guest_model::specs::Effect::effect_of))]
+    fn try_step(&mut self) -> Stepped
         requires { HasAllFrames self.old.frames (stored_by (effect_of self.old.machine)) }
         ensures { Gives (effect_of self.old.machine) result self.old self.new }
     {
@@ -136,6 +189,7 @@ impl Guest {
     fn move_to(&mut self, i: &Instr, next: u32)
         ensures machine { self.new.machine ≡ machine_at self.old.machine i.now next }
         ensures frames { self.new.frames ≡ self.old.frames }
+        ensures origin { self.new.origin ≡ self.old.origin }
     {
         self.pc = next;
         self.fresh = is_terminator(i);
@@ -145,6 +199,7 @@ impl Guest {
     fn write_and_move(&mut self, i: &Instr, value: u32, next: u32)
         ensures machine { self.new.machine ≡ machine_with self.old.machine i.now value next }
         ensures frames { self.new.frames ≡ self.old.frames }
+        ensures origin { self.new.origin ≡ self.old.origin }
     {
         if i.rd != 0 {
             self.registers[i.rd as usize] = value;

@@ -1,6 +1,5 @@
-use Rattle.std.proofs.Common.{◌≡◌, ◌+◌, ◌-◌, ◌*◌, ◌/◌, ◌%◌, ◌^◌, ap, sym, ◌∙◌, None, arith}
+use Rattle.std.proofs.Common.{◌+◌, ◌-◌, ◌/◌, ◌%◌, sym, None, arith}
 use Rattle.std.proofs.lemmas.List.{get_or_read_under}
-use Rattle.guest_mem.specs.Code.{IsWordOf}
 use Rattle.guest_mem.proofs.code.Code.at.Goals as goal
 
 pub returns-then-k-len : goal.returns-then-k-len

@@ -1,4 +1,4 @@
-use Rattle.std.proofs.Common.{◌∙◌, ◌+◌, ◌*◌, ap, refl, arith}
+use Rattle.std.proofs.Common.{◌∙◌, ◌*◌, ap, refl, arith}
 use Rattle.std.proofs.lemmas.List.FromFn.{map-range_with_len_more}
 use Rattle.rv_isa.specs.Decoded.{decoded}
 use Rattle.guest_mem.specs.Code.{word_in}

@@ -1,5 +1,5 @@
 use Rattle.std.proofs.Common.{◌≡◌, true, ◌∙◌, ap, length, arith}
-use Rattle.guest_model.specs.Areas.{is_mapped, is_permitted}
+use Rattle.guest_model.specs.Areas.{is_permitted}
 use Rattle.guest_model.specs.declared.Access.TheVariants.{Write}
 use Rattle.guest_mem.proofs.Enough.{enough_frames}
 use Rattle.guest_mem.proofs.Kept.{all_stay, stays_written}

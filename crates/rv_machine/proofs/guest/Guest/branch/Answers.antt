@@ -13,4 +13,4 @@ returns c =
     rw (← c.rs1.ensures, ← c.rs2.ensures) (ap (λ (f : Fields). is_taken f.op c.rs1.result c.rs2.result) (sym c.i.view_is) ∙ sym c.is_taken.ensures ∙ c.if-not-is_taken.false) in
     let whole : target m i % 4 ≡ 0 = omega (arith, c.target-target.ensures, c.if-target-ne0.false) in
     rw (taken, whole)
-    (completes c.args.self.now c.move_to.new.self (machine_at m i (target m i)) (c.move_to.ensures.machine ∙ ap (machine_at m i) c.target-target.ensures) c.move_to.ensures.frames)
+    (completes c.args.self.now c.move_to.new.self (machine_at m i (target m i)) (c.move_to.ensures.machine ∙ ap (machine_at m i) c.target-target.ensures) c.move_to.ensures.frames c.move_to.ensures.origin)

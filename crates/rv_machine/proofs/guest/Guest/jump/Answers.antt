@@ -8,4 +8,4 @@ pub returns : goal.returns
 returns c =
     rw c.if-to-ne0.false
     (completes c.args.self.now c.write_and_move.new.self (machine_with c.args.self.now.machine c.args.i.now (following c.args.self.now.machine) c.args.to)
-    (c.write_and_move.ensures.machine ∙ ap (λ (a : ℕ). machine_with c.args.self.now.machine c.args.i.now a c.args.to) c.following.ensures) c.write_and_move.ensures.frames)
+    (c.write_and_move.ensures.machine ∙ ap (λ (a : ℕ). machine_with c.args.self.now.machine c.args.i.now a c.args.to) c.following.ensures) c.write_and_move.ensures.frames c.write_and_move.ensures.origin)

@@ -1,4 +1,4 @@
-use Rattle.std.proofs.Common.{◌≡◌, true, List, [], ◌∷◌, ap, sym, subst, ◌∙◌}
+use Rattle.std.proofs.Common.{◌≡◌, true, [], ◌∷◌, ap, sym, subst, ◌∙◌}
 use Rattle.std.specs.Prelude.{Some}
 use Rattle.rv_isa.specs.Kinds.{ends_block}
 use Rattle.guest_model.specs.Areas.{all_permitted}
@@ -27,3 +27,4 @@ returns-in-Ok c =
     ∙ ap (λ (g : GuestState). let m : Machine = record g.machine { pc = following g.machine; space = s; fresh = ends_block c.args.i.now.op } in m) c.self.view_is)
     (rw c.move_to.ensures.frames
     (subst (λ (g : GuestState). TakesFrames g.frames c.store.new.self.frames (range c.address-at.result c.mem_size.result ∷ [])) c.self.view_is c.in-Ok.ensures.frames))
+    (c.move_to.ensures.origin ∙ c.store.ensures.origin ∙ ap (λ (g : GuestState). g.origin) c.self.view_is)

@@ -4,7 +4,7 @@ use Rattle.guest_mem.specs.Code.{word_at}
 use Rattle.guest_mem.specs.Frames.{HasAllFrames}
 use Rattle.rv_machine.specs.Guest.{GuestState}
 use Rattle.rv_machine.proofs.Frames.{effect_found}
-use Rattle.rv_machine.proofs.guest.Guest.step.Goals as goal
+use Rattle.rv_machine.proofs.guest.Guest.try_step.Goals as goal
 
 pub carry_out-requires : goal.carry_out-requires
 carry_out-requires c =
