@@ -2,5 +2,8 @@
 #![tactic(auto)]
 
 #[cfg(test)]
+mod compare;
+#[cfg(test)]
+mod forks;
 #[cfg(test)]
 mod space;
