@@ -2,7 +2,7 @@
 use Rattle.std.specs.Prelude.{List, [], ◌∷◌}
 use Rattle.rv_isa.specs.Places.{place_of}
 use Rattle.insert_points.specs.declared.call.Arg.{Arg}
-use Rattle.insert_points.specs.declared.call.Arg.TheVariants.{Const}
+use Rattle.insert_points.specs.declared.call.Arg.TheVariants.{Const, InstPtr}
 use Rattle.insert_points.specs.declared.call.Call.{Call}
 use Rattle.insert_points.specs.declared.call.Point.TheVariants.{Before}
 use Rattle.insert_points.specs.declared.call.Thing.{Thing}
@@ -29,3 +29,9 @@ abbrev pub mix_calls : Thing → List Call
 mix_calls (things.Ins pc instr) = call_before (Const (place_of instr.op) ∷ []) ∷ []
 mix_calls (things.Block block) = []
 mix_calls (things.Routine start index) = []
+
+-- `blocks`: each block, with its head and its length
+abbrev pub profile_calls : Thing → List Call
+profile_calls (things.Ins pc instr) = []
+profile_calls (things.Block block) = call_before (InstPtr ∷ Const block.len ∷ []) ∷ []
+profile_calls (things.Routine start index) = []
