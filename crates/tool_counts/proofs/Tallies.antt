@@ -136,7 +136,7 @@ pub both-entry : (u : Counts) (k v : ℕ) (rest : List (ℕ × ℕ)) (q : ℕ) �
     → both (table.get (add u k v) q) (lookup (nat_eq q) rest) ≡ both (table.get u q) (lookup (nat_eq q) ((k, v) ∷ rest))
 both-entry u k v rest q distinct =
     ap (λ o. both o (lookup (nat_eq q) rest)) (get-add u k v q) ∙ both_assoc (table.get u q) _ _ ∙ ap (both (table.get u q)) (
-        ap (λ b. both (cond b (Some v) None) (lookup (nat_eq q) rest)) (sym (nat_eq-cmp_same q k)) ∙ by (nat_eq q k) refl)
+    ap (λ b. both (cond b (Some v) None) (lookup (nat_eq q) rest)) (sym (nat_eq-cmp_same q k)) ∙ by (nat_eq q k) refl)
   where
     by : (b : Bool) → nat_eq q k ≡ b → both (cond b (Some v) None) (lookup (nat_eq q) rest) ≡ cond b (Some v) (lookup (nat_eq q) rest)
     by true e = ap (both (Some v)) (lookup-none (nat_eq q) rest (none_past_head nat_eq_equiv q (k, v) rest distinct e)) ∙ sym (both_none (Some v))
