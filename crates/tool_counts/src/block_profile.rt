@@ -28,8 +28,12 @@ fn note_head(counts: &mut IndexMap<u32, u64>, head: u32) -> Result<(), AllocErro
         → (q : ℕ) → get nat_eq counts.new q ≡ (if nat_eq head q
         then Some (unwrap_or (get nat_eq counts.old head) 0 + 1) else get nat_eq counts.old q)) }
 {
-    let count = counts.get(&head).copied().unwrap_or(0);
-    counts.insert(head, count.wrapping_add(1))?;
+    match counts.get_mut(&head) {
+        Some(count) => *count = count.wrapping_add(1),
+        None => {
+            counts.insert(head, 1)?;
+        }
+    }
     Ok(())
 }
 
