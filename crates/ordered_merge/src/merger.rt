@@ -44,8 +44,10 @@ impl<T: Tool> Merger<T> {
         requires next { piece.index ≡ length self.old.lines.items }
         requires sound { self.old.refused ≡ false }
         ensures value { OnOk result
-            (Merges (T.is_local tool.now) (T.is_value tool.now) self.old.shared piece.local self.new.shared) }
-        ensures lines { OnOk result (self.new.lines.items ≡ self.old.lines.items ++ line_of piece ∷ []) }
+            (Merges (T.is_local tool.now) (T.is_value tool.now)
+            self.old.shared piece.local self.new.shared) }
+        ensures lines { OnOk result
+            (self.new.lines.items ≡ self.old.lines.items ++ line_of piece ∷ []) }
         ensures sound { OnOk result (self.new.refused ≡ false) }
         ensures refused { OnErr result (self.new.refused ≡ true) }
     {

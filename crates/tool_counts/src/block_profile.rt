@@ -39,7 +39,8 @@ fn note_head(counts: &mut IndexMap<u32, u64>, head: u32) -> Result<(), AllocErro
 
 // Adds n at a head.
 fn add_at(counts: &mut BTreeMap<u32, u64>, head: u32, n: u64) -> Result<(), AllocError>
-    ensures { OnOk result ((t : Counts) → counts.old.entries ≡ table.entries t → count_of t head + n < 2 ^ 64
+    ensures { OnOk result ((t : Counts) → counts.old.entries ≡ table.entries t
+        → count_of t head + n < 2 ^ 64
         → counts.new.entries ≡ table.entries (add t head n)) }
 {
     let count = counts.get(&head).copied().unwrap_or(0);
@@ -112,7 +113,8 @@ fn push_lines(
     views: &Views,
     counts: &BTreeMap<u32, u64>,
 ) -> Result<(), AllocError>
-    ensures { OnOk result (out.new.items ≡ out.old.items ++ profile_text views.now counts.now.entries) }
+    ensures { OnOk result
+        (out.new.items ≡ out.old.items ++ profile_text views.now counts.now.entries) }
 {
     for (head, n) in counts {
         push_line(out, views, *head, *n)?;

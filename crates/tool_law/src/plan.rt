@@ -46,7 +46,8 @@ fn offer_at<T: Tool>(
     requires rest { rest ≡ block_length views.now (pc + 4) }
     ensures len { IfOk result (λ len. len ≡ block_length views.now pc) }
     ensures given { OnOk result ((a : ℕ) → a < 2 ^ 32 → called_at plan.new a ≡ (if a == pc
-        then called_offered (T.calls_of tool.now) a (ins_at views.now a) (block_length views.now a) (called_at plan.old a)
+        then called_offered (T.calls_of tool.now) a (ins_at views.now a)
+        (block_length views.now a) (called_at plan.old a)
         else called_at plan.old a)) }
 {
     match views.ins_at(pc) {
@@ -69,7 +70,8 @@ fn offer_code<T: Tool>(
 ) -> Result<(), AllocError>
     requires views { IsViews views.now }
     requires code { IsCode code.now }
-    ensures opened { OnOk result ((a : ℕ) → a < 2 ^ 32 → IsOpen (T.calls_of tool.now) views.now a (called_at plan.old a)
+    ensures opened { OnOk result ((a : ℕ) → a < 2 ^ 32
+        → IsOpen (T.calls_of tool.now) views.now a (called_at plan.old a)
         → IsOpen (T.calls_of tool.now) views.now a (called_at plan.new a)) }
     ensures keeps { OnOk result ((a : ℕ) → a < 2 ^ 32
         → called_at plan.old a ≡ code_called (T.calls_of tool.now) views.now a
@@ -103,7 +105,8 @@ fn offer_codes<T: Tool>(plan: &mut Plan, views: &Views, tool: &T) -> Result<(), 
 
 // Offers all routines.
 fn offer_routines<T: Tool>(plan: &mut Plan, views: &Views, tool: &T) -> Result<(), AllocError>
-    requires { (a : ℕ) → a < 2 ^ 32 → called_at plan.old a ≡ code_called (T.calls_of tool.now) views.now a }
+    requires { (a : ℕ) → a < 2 ^ 32
+        → called_at plan.old a ≡ code_called (T.calls_of tool.now) views.now a }
     ensures { OnOk result ((a : ℕ) → a < 2 ^ 32
         → called_at plan.new a ≡ called_of (T.calls_of tool.now) views.now a) }
 {

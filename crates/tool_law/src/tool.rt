@@ -36,7 +36,7 @@ pub trait Tool: Sync {
     ghost is_local: { Self → List Event → Self.Local → Type 0 };
 
     // What a local stands for is a plain fact, so that a type may keep it.
-    ghost once: { (tool : Self) (events : List Event) (local : Self.Local) → IsProp (is_local tool events local) };
+    ghost once: { (tool : Self) (ys : List Event) (local : Self.Local) → IsProp (is_local tool ys local) };
 
     // The text of a value, by what is known of the program's code.
     ghost text_of: { Self → ViewFields → Value → List ℕ };
@@ -68,7 +68,8 @@ pub trait Tool: Sync {
 
     /// Adds a piece's events behind those that there are.
     fn merge(&self, shared: &mut Self::Shared, local: Self::Local) -> Result<(), AllocError>
-        ensures { OnOk result (Merges (is_local self.now) (is_value self.now) shared.old local shared.new) };
+        ensures { OnOk result
+            (Merges (is_local self.now) (is_value self.now) shared.old local shared.new) };
 
     /// Adds the text of the value.
     fn text(
@@ -78,5 +79,6 @@ pub trait Tool: Sync {
         out: &mut Vec<u8>,
     ) -> Result<(), AllocError>
         ensures { OnOk result (AppendsText (is_value self.now)
-            (λ events. text_of self.now views.now (value self.now events)) shared.now out.old.items out.new.items) };
+            (λ xs. text_of self.now views.now (value self.now xs))
+            shared.now out.old.items out.new.items) };
 }
