@@ -63,7 +63,7 @@ fn shared_functions(alloc: Global, functions: &[Function]) -> Result<Vec<Functio
 
 impl Views {
     ghost use Rattle.std.specs.Prelude.{◌≡◌, ◌<◌, ◌==◌, find, length, slice_get, Some, IfOk, IfSome, option_copied};
-    ghost use Rattle.ins_views.specs.Views.{IsPlaced, views_of, code_at, ins_at, routine_of};
+    ghost use Rattle.ins_views.specs.Views.{IsPlaced, IsViews, views_of, code_at, ins_at, routine_of};
     ghost use Rattle.ins_views.specs.Blocks.{block_at, block_length};
 
     /// The views of an image. Each word of its code is decoded here, once, into 8 bytes.
@@ -77,7 +77,8 @@ impl Views {
 
     /// The code, segment by segment in order of address.
     pub fn code(&self) -> &[Code]
-        ensures { result.now ≡ self.now.code }
+        ensures items { result.now ≡ self.now.code }
+        ensures sound { IsViews self.now }
     {
         &self.code
     }

@@ -6,3 +6,4 @@ pub mod Kinds
 pub mod Text
 pub mod Forms
 pub mod Kept
+pub mod Places

@@ -1,7 +1,8 @@
 // Laws of the table.
-ghost use Rattle.std.specs.Prelude.{◌≡◌, ◌≢◌, ◌↔◌, ℕ, Some};
+ghost use Rattle.std.specs.Prelude.{◌≡◌, ◌≢◌, ◌↔◌, ℕ, Some, slice_get};
 ghost use Rattle.rv_isa.specs.Table.{Fields, IsInstr, Decodes};
-ghost use Rattle.rv_isa.specs.Decoded.{decoded};
+ghost use Rattle.rv_isa.specs.Decoded.{decoded, ops};
+ghost use Rattle.rv_isa.specs.Places.{place_of};
 ghost use Rattle.rv_isa.specs.declared.op.Op.{Op};
 
 /// A word has at most one instruction, which is what `decoded` gives.
@@ -18,4 +19,9 @@ pub fn one_word()
 /// What a word decodes to is an instruction, with its fields in the range of its form.
 pub fn in_form()
     ensures { (word : ℕ) (i : Fields) → Decodes word i → IsInstr i }
+{}
+
+/// An instruction's name stands at its place in the table.
+pub fn name_at_place()
+    ensures { (op : Op) → slice_get ops (place_of op) ≡ Some op }
 {}

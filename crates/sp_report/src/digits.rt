@@ -38,7 +38,7 @@ pub(crate) fn push_digits(text: &mut Vec<u8>, n: u32) -> Result<(), AllocError>
 }
 
 /// Adds an address, as `0x` and eight digits.
-pub(crate) fn push_address(text: &mut Vec<u8>, n: u32) -> Result<(), AllocError>
+pub fn push_address(text: &mut Vec<u8>, n: u32) -> Result<(), AllocError>
     ensures { OnOk result (text.new.items ≡ text.old.items ++ address_text n) }
 {
     text.extend_from_slice(b"0x")?;

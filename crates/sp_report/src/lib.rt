@@ -4,4 +4,5 @@
 mod digits;
 mod view;
 
-pub use view::view_text;
+pub use digits::push_address;
+pub use view::{push_name, view_text};

@@ -23,8 +23,8 @@ fn shown_byte(byte: u8) -> u8
     }
 }
 
-// Adds a name, as it is printed.
-fn push_name(text: &mut Vec<u8>, name: &[u8]) -> Result<(), AllocError>
+/// Adds a name, as it is printed.
+pub fn push_name(text: &mut Vec<u8>, name: &[u8]) -> Result<(), AllocError>
     ensures { OnOk result (text.new.items ≡ text.old.items ++ shown_name name.now) }
 {
     for byte in name {

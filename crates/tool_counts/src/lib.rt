@@ -1,0 +1,14 @@
+//! Tools that count: instructions, blocks, instructions by their names, and blocks by their heads.
+#![tactic(auto)]
+
+mod block_count;
+mod block_profile;
+mod calls;
+mod instruction_count;
+mod op_mix;
+mod text;
+
+pub use block_count::{BlockCount, BlockTotals};
+pub use block_profile::BlockProfile;
+pub use instruction_count::InsCount;
+pub use op_mix::{OpCounts, OpMix};
