@@ -1,6 +1,6 @@
 -- The run, step by step.
 use Rattle.std.proofs.Common.{◌≡◌, ◌<◌, ◌+◌, ℕ, List, [], ◌++◌, refl, sym, ap, ◌∙◌, ◌≤◌, inl, inr, zero-add, arith}
-use Rattle.std.specs.Prelude.{true, false, Bool, Option, None, Some, cond, is_some, Ok, Err, option_and_then, if◌then◌else◌}
+use Rattle.std.specs.Prelude.{true, false, Bool, Option, None, Some, cond, count_by, is_some, Ok, Err, option_and_then, if◌then◌else◌}
 use Rattle.std.proofs.lemmas.Bool.{cases_Bool, true≢false}
 use Rattle.std.proofs.lemmas.List.Sums.{sum_by-append}
 use Rattle.sp_host.specs.Told.{Told}

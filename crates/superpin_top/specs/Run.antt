@@ -1,5 +1,5 @@
 -- What a run does to what a host tells.
-use Rattle.std.specs.Prelude.{◌≡◌, ℕ, ◌<◌, List, ◌++◌, Option, None, Some, Result, Ok, Err}
+use Rattle.std.specs.Prelude.{◌≡◌, ℕ, ◌<◌, List, [], ◌++◌, Option, None, Some, Result, Ok, Err}
 use Rattle.sp_host.specs.Told.{Told}
 use Rattle.guest_model.specs.Call.{Sent, World}
 use Rattle.guest_model.specs.Calls.{Deed, deed_of}

@@ -7,7 +7,7 @@ use Rattle.sp_host.specs.Faults.{Caused}
 use Rattle.syscall_layer.specs.Serve.{AnswersCall, TellsCall, source_of}
 use Rattle.syscall_layer.specs.declared.server.Served.{Served}
 use Rattle.syscall_layer.specs.declared.fault.CallFault.{CallFault}
-use Rattle.superpin_top.proofs.Steps.{StandsAt, exit_gives, exit_stays, input_gives, may_lack, no_memory_gives, output_gives, output_port, unsupported_gives, unsupported_stays, went_gives}
+use Rattle.superpin_top.proofs.Steps.{StandsAt, count_kept, exit_gives, exit_stays, input_gives, may_lack, no_memory_gives, output_gives, output_port, unsupported_gives, unsupported_stays, went_gives}
 use Rattle.superpin_top.proofs.run.call.Goals as goal
 
 pub returns-in-Ok-Went-clause-told : goal.returns-in-Ok-Went-clause-told

@@ -6,13 +6,14 @@ use Rattle.rv_isa.specs.Table.{Fields}
 use Rattle.guest_model.specs.Machine.{instruction_at}
 use Rattle.guest_model.specs.Serial.{sent_of}
 use Rattle.guest_model.specs.declared.platform.TheConstants.{MOST_PAGES}
+use Rattle.rv_machine.specs.Guest.{GuestState}
 use Rattle.superpin_top.specs.Report.{is_in_code}
 use Rattle.superpin_top.specs.Run.{StepGives, RunGives}
 use Rattle.superpin_top.specs.Start.{Run, start_of}
 use Rattle.superpin_top.specs.declared.run.Turn.{Turn}
 use Rattle.superpin_top.specs.declared.run.Finish.{Finish}
 use Rattle.syscall_layer.specs.declared.fault.RunFault.{RunFault}
-use Rattle.superpin_top.proofs.Runs.{SoFar, begins, counted_here, one_if_small, next_so_far, ends_run, faults_run, spent}
+use Rattle.superpin_top.proofs.Runs.{SoFar, begins, counted_here, one_if, one_if_small, next_so_far, ends_run, faults_run, spent}
 use Rattle.superpin_top.proofs.run.execute.Goals as goal
 
 pub loop-steps-init : goal.loop-steps-init

@@ -2,8 +2,9 @@ use Rattle.std.proofs.Common.{◌≡◌, ◌≤◌, []}
 use Rattle.sp_host.specs.Told.{Told}
 use Rattle.guest_model.specs.Call.{World}
 use Rattle.guest_model.specs.declared.platform.TheConstants.{MOST_PAGES}
+use Rattle.rv_machine.specs.Guest.{GuestState}
 use Rattle.syscall_layer.specs.Serve.{told_after}
-use Rattle.superpin_top.specs.Start.{start_of}
+use Rattle.superpin_top.specs.Start.{Run, start_of}
 use Rattle.superpin_top.proofs.Runs.{SoFar}
 use Rattle.superpin_top.proofs.run.execute.Given as goal
 
