@@ -50,7 +50,13 @@ fn bytes_of(alloc: Global, words: &[u32]) -> Result<Vec<u8>, AllocError> {
 }
 
 // Whether `view` answers so, and leaves these bytes on the standard output and on the port of reports alone.
-fn leaves(alloc: Global, outside: Outside, answer: Wanted, out: &[u8], report: &str) -> Result<bool, Fail>
+fn leaves(
+    alloc: Global,
+    outside: Outside,
+    answer: Wanted,
+    out: &[u8],
+    report: &str,
+) -> Result<bool, Fail>
     requires { 0 < outside.plan.most }
 {
     let done = run(alloc, &VIEW, outside)?;
@@ -68,7 +74,15 @@ fn code_is_shown(rt: HostRuntime) -> Result<(), Fail> {
     let one = outside_of(alloc, one_segment(alloc, &EXIT_7)?, 65_536);
     assert!(rt; leaves(alloc, one, Wanted::Status(0), EXIT_7_TEXT.as_bytes(), "")?);
     let two = outside_of(alloc, bytes_of(alloc, &TWO_OF_CODE)?, 65_536);
-    assert!(rt; leaves(alloc, two, Wanted::Status(0), TWO_OF_CODE_TEXT.as_bytes(), "")?);
+    assert!(rt;
+        leaves(
+            alloc,
+            two,
+            Wanted::Status(0),
+            TWO_OF_CODE_TEXT.as_bytes(),
+            ""
+        )?
+    );
     Ok(())
 }
 
@@ -102,7 +116,15 @@ fn a_write_fails(rt: HostRuntime) -> Result<(), Fail> {
     assert!(rt; leaves(alloc, third, fault, b"0x", "superpin: 9 output fault Out\n")?);
     let last = with_failing_write(alloc, 95)?;
     let all_but_one = &EXIT_7_TEXT.as_bytes()[..94];
-    assert!(rt; leaves(alloc, last, fault, all_but_one, "superpin: 9 output fault Out\n")?);
+    assert!(rt;
+        leaves(
+            alloc,
+            last,
+            fault,
+            all_but_one,
+            "superpin: 9 output fault Out\n"
+        )?
+    );
     let after = with_failing_write(alloc, 96)?;
     assert!(rt; leaves(alloc, after, Wanted::Status(0), EXIT_7_TEXT.as_bytes(), "")?);
     Ok(())
