@@ -1,13 +1,10 @@
 -- Lines, one word after the other.
-use Rattle.std.proofs.Common.{◌≡◌, ◌+◌, ◌*◌, ◌∙◌, ◌++◌, ℕ, List, [], ◌∷◌, map, ap, append_assoc, refl, sym, zero-add}
-use Rattle.std.specs.Prelude.{Option, find}
+use Rattle.std.proofs.Common.{◌≡◌, ◌+◌, ◌∙◌, ◌++◌, ℕ, List, [], ◌∷◌, ap, sym, zero-add}
 use Rattle.std.specs.List.{flat_map, range_with_len}
 use Rattle.std.proofs.lemmas.List.{flat_map_more, map-id}
 use Rattle.std.proofs.lemmas.List.FromFn.{map-range_with_len_more}
-use Rattle.elf_load.specs.Image.{FunctionFields, ImageFields, SegmentFields}
-use Rattle.ins_views.specs.Memory.{memory_word}
+use Rattle.elf_load.specs.Image.{ImageFields}
 use Rattle.ins_views.specs.Views.{ViewFields, views_of}
-use Rattle.sp_report.specs.View.{first_shown, lines_at, routine_line, segment_text, word_line}
 
 range_more : (n : ℕ) → range_with_len 0 n ++ n ∷ [] ≡ range_with_len 0 (n + 1)
 range_more n =

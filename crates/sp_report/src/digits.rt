@@ -4,8 +4,8 @@ ghost use Rattle.sp_report.specs.Digits.{address_text, eight_digits, hex_digit};
 
 use std::alloc::AllocError;
 
-// A lower-case hexadecimal digit.
-fn hex_digit(d: u32) -> u8
+/// A lower-case hexadecimal digit.
+pub(crate) fn hex_digit(d: u32) -> u8
     requires { d < 16 }
     ensures { result ≡ hex_digit d }
 {

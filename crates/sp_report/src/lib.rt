@@ -2,6 +2,7 @@
 #![tactic(auto)]
 
 mod digits;
+mod instruction;
 mod view;
 
 pub use digits::push_address;

@@ -7,9 +7,10 @@ ghost use Rattle.ins_views.specs.Views.{views_of};
 ghost use Rattle.sp_report.specs.View.{first_shown, instruction_text, lower, lowest_known, routine_line, segment_text, shown_byte, shown_name, view_text, word_line};
 
 use crate::digits::{push_address, push_digits};
+use crate::instruction::push_instruction;
 use elf_load::{Function, Image, Segment};
 use ins_views::{Views, memory_word};
-use rv_isa::{Instr, decode, instr_text};
+use rv_isa::{Instr, decode};
 use std::alloc::{AllocError, Global};
 
 // A byte of a name, as it is printed.
@@ -48,32 +49,25 @@ fn push_routine(text: &mut Vec<u8>, routine: Option<&Function>) -> Result<(), Al
 }
 
 // Adds the text of an instruction, or `?` where there is none.
-fn push_instruction(
-    alloc: Global,
-    text: &mut Vec<u8>,
-    instr: Option<Instr>,
-) -> Result<(), AllocError>
+fn push_decoded(text: &mut Vec<u8>, instr: Option<Instr>) -> Result<(), AllocError>
     ensures { OnOk result (text.new.items ≡ text.old.items ++ instruction_text instr) }
 {
     match instr {
-        Some(instr) => {
-            let spelled = instr_text(alloc, &instr)?;
-            text.extend_from_slice(spelled.as_bytes())
-        }
+        Some(instr) => push_instruction(text, &instr),
         None => text.extend_from_slice(b"?"),
     }
 }
 
 // Adds the line of a word.
-fn push_word(alloc: Global, text: &mut Vec<u8>, at: u32, word: u32) -> Result<(), AllocError>
+fn push_word(text: &mut Vec<u8>, at: u32, word: u32) -> Result<(), AllocError>
     ensures { OnOk result (text.new.items ≡ text.old.items ++ word_line at word) }
 {
     push_address(text, at)?;
-    text.extend_from_slice(b" ")?;
+    text.push(b' ')?;
     push_digits(text, word)?;
-    text.extend_from_slice(b" ")?;
-    push_instruction(alloc, text, decode(word))?;
-    text.extend_from_slice(b"\n")?;
+    text.push(b' ')?;
+    push_decoded(text, decode(word))?;
+    text.push(b'\n')?;
     Ok(())
 }
 
@@ -136,7 +130,6 @@ fn count_shown(segment: &Segment, first: u32) -> u32
 
 // Adds the lines of a segment.
 fn push_segment(
-    alloc: Global,
     text: &mut Vec<u8>,
     image: &Image,
     views: &Views,
@@ -150,7 +143,7 @@ fn push_segment(
     for k in 0..count_shown(segment, first) {
         let at = first + 4 * k;
         push_routine(text, views.routine_at(at))?;
-        push_word(alloc, text, at, memory_word(segment, at))?;
+        push_word(text, at, memory_word(segment, at))?;
     }
     Ok(())
 }
@@ -169,7 +162,7 @@ fn segments_text(
     let mut text = Vec::new(alloc);
     for segment in segments {
         if segment.flags & 1 != 0 {
-            push_segment(alloc, &mut text, image, views, segment)?;
+            push_segment(&mut text, image, views, segment)?;
         }
     }
     Ok(text)

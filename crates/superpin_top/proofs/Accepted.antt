@@ -11,8 +11,8 @@ use Rattle.std.proofs.lemmas.Slice.Eq.{bytes_eq-Decides}
 use Rattle.std.proofs.lemmas.List.Elements.{All-nil, All-cons, All-head, All-tail}
 use Rattle.std.proofs.lemmas.Str.Parse.{IsDigitsTest, IsNumeralModel, numerals_by_value}
 use Rattle.std.proofs.lemmas.Fmt.{decimal-digits_value, decimal_digit, decimal_nonempty, first_decimal, digits_decimal, digits_value-decimal}
-use Rattle.superpin_top.specs.Words.{is_digit, is_number, budget_of, is_plain, is_word, is_form, with_serial, with_budget, asked_with, behind_options, no_options, most_budget, default_budget, asked, Request}
-use Rattle.superpin_top.specs.Accepted.{IsPlain, IsCommand, IsBudget, AreAccepted}
+use Rattle.superpin_top.specs.Words.{is_digit, is_number, budget_of, is_plain, is_word, is_form, with_serial, with_budget, asked_with, behind_options, no_options, most_budget, default_budget, asked, asked_run, asked_view, asked_with_view, Asked, ToRun, ToView, Request}
+use Rattle.superpin_top.specs.Accepted.{IsPlain, IsCommand, IsBudget, AreRun, AreView, AreAccepted}
 use Rattle.superpin_top.specs.declared.words.Options.{Options}
 
 abbrev options : Bool → Option ℕ → Options
@@ -259,17 +259,17 @@ behind_number n ws r h = elim (step (options false (Some n)) r ws h) [
 ]
 
 -- behind `run`
-behind_run : (ws : List (List ℕ)) (r : Request) → behind_options no_options ws ≡ Some r → AreAccepted (codes "run" ∷ ws) r
+behind_run : (ws : List (List ℕ)) (r : Request) → behind_options no_options ws ≡ Some r → AreRun (codes "run" ∷ ws) r
 behind_run ws r h = elim (step no_options r ws h) [
   | inl e ↦ absurd (false≢true (ends_to no_options ws r e).1)
   | inr (inl s) ↦
       let got = serial_to no_options s.value s.next s.read in
       let front : codes "run" ∷ ws ≡ codes "run" ∷ codes "--by" ∷ codes "serial" ∷ s.rest = ap (λ (xs : List (List ℕ)). codes "run" ∷ xs) (s.is ∙ ap (λ (v : List ℕ). codes "--by" ∷ v ∷ s.rest) got.0) in
       elim (behind_serial s.rest r (ap (λ (p : Options). behind_options p s.rest) got.2 ∙ s.after)) [
-        | inl last ↦ subst (λ (q : Request). AreAccepted (codes "run" ∷ ws) q) last.1 (last.0, inl (front, refl))
+        | inl last ↦ subst (λ (q : Request). AreRun (codes "run" ∷ ws) q) last.1 (last.0, inl (front, refl))
         | inr last ↦
             let whole = front ∙ ap (λ (xs : List (List ℕ)). codes "run" ∷ codes "--by" ∷ codes "serial" ∷ xs) last.is in
-            subst (λ (q : Request). AreAccepted (codes "run" ∷ ws) q) last.made (last.command, inr (inl (whole, last.ok)))
+            subst (λ (q : Request). AreRun (codes "run" ∷ ws) q) last.made (last.command, inr (inl (whole, last.ok)))
       ]
   | inr (inr s) ↦
       let got = number_to no_options (budget_of s.value) s.next s.read in
@@ -277,27 +277,63 @@ behind_run ws r h = elim (step no_options r ws h) [
       let last = behind_number got.0 s.rest r (ap (λ (p : Options). behind_options p s.rest) got.3 ∙ s.after) in
       let front : codes "run" ∷ ws ≡ codes "run" ∷ codes "--budget" ∷ decimal got.0 ∷ s.rest = ap (λ (xs : List (List ℕ)). codes "run" ∷ xs) (s.is ∙ ap (λ (v : List ℕ). codes "--budget" ∷ v ∷ s.rest) text.1) in
       let whole = front ∙ ap (λ (xs : List (List ℕ)). codes "run" ∷ codes "--budget" ∷ decimal got.0 ∷ xs) last.is in
-      subst (λ (q : Request). AreAccepted (codes "run" ∷ ws) q) last.made (last.command, inr (inr (whole, text.0)))
+      subst (λ (q : Request). AreRun (codes "run" ∷ ws) q) last.made (last.command, inr (inr (whole, text.0)))
 ]
 
-accepted_to : (words : List (List ℕ)) (r : Request) → asked words ≡ Some r → AreAccepted words r
-unfolding asked
-accepted_to [] r h = absurd (cc)
-accepted_to (command ∷ ws) r h =
+run_to : (words : List (List ℕ)) (r : Request) → asked_run words ≡ Some r → AreRun words r
+unfolding asked_run
+run_to [] r h = absurd (cc)
+run_to (command ∷ ws) r h =
     let got = if_some (is_word command (codes "run")) (behind_options no_options ws) r h in
-    subst (λ (x : List ℕ). AreAccepted (x ∷ ws) r) (sym (same_word command (codes "run") got.0)) (behind_run ws r got.1)
+    subst (λ (x : List ℕ). AreRun (x ∷ ws) r) (sym (same_word command (codes "run") got.0)) (behind_run ws r got.1)
 
-accepted_from : (words : List (List ℕ)) (r : Request) → AreAccepted words r → asked words ≡ Some r
-unfolding asked
-accepted_from words r h = elim h.1 [
-  | inl form ↦ ap asked form.0 ∙ (stops_at None r.strings h.0 ∙ ap (λ (n : ℕ). Some (request n r.strings)) (sym form.1))
+run_from : (words : List (List ℕ)) (r : Request) → AreRun words r → asked_run words ≡ Some r
+unfolding asked_run
+run_from words r h = elim h.1 [
+  | inl form ↦ ap asked_run form.0 ∙ (stops_at None r.strings h.0 ∙ ap (λ (n : ℕ). Some (request n r.strings)) (sym form.1))
   | inr (inl form) ↦
       let read = ap (λ (m : Option ℕ). option_and_then (λ (p : Options). behind_options p r.strings) (with_budget (options true None) m)) (budget_from r.budget form.1) in
-      ap asked form.0 ∙ (read ∙ stops_at (Some r.budget) r.strings h.0)
+      ap asked_run form.0 ∙ (read ∙ stops_at (Some r.budget) r.strings h.0)
   | inr (inr form) ↦
       let read = ap (λ (m : Option ℕ). option_and_then (λ (p : Options). behind_options p (codes "--by" ∷ codes "serial" ∷ r.strings)) (with_budget no_options m)) (budget_from r.budget form.1) in
-      ap asked form.0 ∙ (read ∙ stops_at (Some r.budget) r.strings h.0)
+      ap asked_run form.0 ∙ (read ∙ stops_at (Some r.budget) r.strings h.0)
 ]
 
-pub accepted : (words : List (List ℕ)) (r : Request) → (asked words ≡ Some r) ↔ AreAccepted words r
-accepted words r = (accepted_to words r, accepted_from words r)
+view_to : (words : List (List ℕ)) (file : List ℕ) → asked_view words ≡ Some file → AreView words file
+unfolding asked_view
+view_to [] file h = absurd (cc)
+view_to (x ∷ []) file h = absurd (cc)
+view_to (command ∷ name ∷ []) file h =
+    let got = if_some (is_word command (codes "view") && is_plain name) (Some name) file h in
+    let parts = and_parts (is_word command (codes "view")) (is_plain name) got.0 in
+    let same : name ≡ file = some_same name file got.1 in
+    subst (λ (x : List ℕ). AreView (command ∷ name ∷ []) x) same (ap (λ (x : List ℕ). x ∷ name ∷ []) (same_word command (codes "view") parts.0), plain_to name parts.1)
+view_to (x ∷ y ∷ z ∷ rest) file h = absurd (cc)
+
+view_from : (file : List ℕ) → IsPlain file → asked_view (codes "view" ∷ file ∷ []) ≡ Some file
+unfolding asked_view
+view_from file h = ap (λ (b : Bool). if b then Some file else None) (plain_from file h)
+
+no_run : (words : List (List ℕ)) → asked_run (codes "view" ∷ words) ≡ None
+unfolding asked_run
+no_run words = refl
+
+accepted_by : (words : List (List ℕ)) (a : Asked) (run : Option Request) (view : Option (List ℕ)) → asked_run words ≡ run → asked_view words ≡ view → asked_with_view run view ≡ Some a → AreAccepted words a
+accepted_by words a (Some r) view is_run is_view h = subst (AreAccepted words) (some_same (ToRun r) a h) (run_to words r is_run)
+accepted_by words a None (Some file) is_run is_view h = subst (AreAccepted words) (some_same (ToView file) a h) (view_to words file is_view)
+accepted_by words a None None is_run is_view h = absurd (cc)
+
+accepted_to : (words : List (List ℕ)) (a : Asked) → asked words ≡ Some a → AreAccepted words a
+unfolding asked
+accepted_to words a h = accepted_by words a (asked_run words) (asked_view words) refl refl h
+
+accepted_from : (words : List (List ℕ)) (a : Asked) → AreAccepted words a → asked words ≡ Some a
+unfolding asked
+accepted_from words (ToRun r) h = ap (λ (o : Option Request). asked_with_view o (asked_view words)) (run_from words r h)
+accepted_from words (ToView file) h =
+    ap asked h.0
+    ∙ (ap (λ (o : Option Request). asked_with_view o (asked_view (codes "view" ∷ file ∷ []))) (no_run (file ∷ []))
+    ∙ ap (λ (o : Option (List ℕ)). asked_with_view None o) (view_from file h.1))
+
+pub accepted : (words : List (List ℕ)) (a : Asked) → (asked words ≡ Some a) ↔ AreAccepted words a
+accepted words a = (accepted_to words a, accepted_from words a)

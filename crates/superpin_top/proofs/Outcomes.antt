@@ -2,7 +2,7 @@
 use Rattle.std.proofs.Common.{inl, inr, ◌≡◌, ℕ, List, [], refl, ap, sym, subst, ◌∙◌}
 use Rattle.std.specs.Prelude.{Option, Some, Ok, Err, Result}
 use Rattle.sp_host.specs.Told.{Told, appended, sent as sent_to, PartSent}
-use Rattle.sp_host.specs.declared.host.Port.TheVariants.{Report}
+use Rattle.sp_host.specs.declared.host.Port.TheVariants.{Out, Report}
 use Rattle.sp_host.proofs.Told.{appended-nil, appended-more}
 use Rattle.elf_load.specs.Image.{ImageFields}
 use Rattle.guest_model.specs.Call.{World}
@@ -16,12 +16,13 @@ use Rattle.rv_machine.specs.declared.step.End.TheVariants as ends
 use Rattle.syscall_layer.specs.Serve.{told_after}
 use Rattle.syscall_layer.specs.declared.fault.RunFault.{RunFault}
 use Rattle.syscall_layer.specs.declared.fault.RunFault.TheVariants as faults
-use Rattle.superpin_top.specs.Causes.{is_early, refusal_of_run}
+use Rattle.superpin_top.specs.Causes.{refusal_of_run}
 use Rattle.superpin_top.specs.Run.{end_by, RunGives}
 use Rattle.superpin_top.specs.Start.{Run, start_of}
 use Rattle.superpin_top.specs.Report.{count_of, report_of}
-use Rattle.superpin_top.specs.Due.{Due, Program, due_refused, due_run, due_state, due_program, run_of_program, delivered}
-use Rattle.superpin_top.specs.Outcome.{IsDue, Refuses, AttemptGives}
+use Rattle.sp_report.specs.View.{view_text}
+use Rattle.superpin_top.specs.Due.{Due, Program, Task, Runs, due_refused, due_run, due_shown, due_state, run_of_program, delivered}
+use Rattle.superpin_top.specs.Outcome.{IsDue, OfText, Refuses, AttemptGives}
 use Rattle.superpin_top.specs.declared.answer.Answer.TheVariants.{Ended, Refused}
 use Rattle.superpin_top.specs.declared.answer.Refusal.{Refusal}
 use Rattle.superpin_top.specs.declared.answer.Refusal.TheVariants as refusals
@@ -80,9 +81,9 @@ refused_early t new (refusals.OutputFault port) w is input moments same = absurd
 refused_early t new refusals.ReportFault w is input moments same = absurd is
 refused_early t new refusals.NoMemory w is input moments same = absurd is
 
-pub refused_before : (t new : Told) (program : Result Program Refusal) (refusal : Refusal) (w : World) → IsEarlyRefusal refusal → program ≡ Err refusal → t.input ≡ Some w.input → t.moments ≡ Some w.moments → new ≡ t → Refuses t program w refusal new
-refused_before t new program refusal w is by input moments same =
-    subst (λ (p : Result Program Refusal). Refuses t p w refusal new) (sym by) (refused_early t new refusal w is input moments same)
+pub refused_before : (t new : Told) (task : Result Task Refusal) (refusal : Refusal) (w : World) → IsEarlyRefusal refusal → task ≡ Err refusal → t.input ≡ Some w.input → t.moments ≡ Some w.moments → new ≡ t → Refuses t task w refusal new
+refused_before t new task refusal w is by input moments same =
+    subst (λ (p : Result Task Refusal). Refuses t p w refusal new) (sym by) (refused_early t new refusal w is input moments same)
 
 -- a run that is refused
 unsupported_refuses : (t new : Told) (number pc : ℕ) (r : Run) → RunGives t r (Err (faults.Unsupported number pc)) new → IsDue t (due_run r) (Refused (refusals.UnsupportedCall number pc)) new
@@ -99,11 +100,11 @@ spent_refuses t new n r gives =
       told_is = told_due t (due_run r) (due_state r (Running gives.0) (trace_of r.budget r.start) (sent_of r.budget r.start)) new is gives.3;
     }
 
-pub run_refuses : (t new : Told) (p : Program) (w : World) (fault : RunFault) → RunGives t (run_of_program p w) (Err fault) new → Refuses t (Ok p) w (refusal_of_run fault) new
+pub run_refuses : (t new : Told) (p : Program) (w : World) (fault : RunFault) → RunGives t (run_of_program p w) (Err fault) new → Refuses t (Ok (Runs p)) w (refusal_of_run fault) new
 run_refuses t new p w (faults.Unsupported number pc) gives = unsupported_refuses t new number pc (run_of_program p w) gives
 run_refuses t new p w (faults.BudgetSpent n) gives = spent_refuses t new n (run_of_program p w) gives
 run_refuses t new p w faults.InputFault gives = (p, refl, gives)
-run_refuses t new p w (faults.OutputFault port) gives = (p, refl, gives)
+run_refuses t new p w (faults.OutputFault port) gives = inl (p, refl, gives)
 run_refuses t new p w faults.NoMemory gives = inr (inl (p, refl, gives))
 
 -- a run that ended, before its report
@@ -133,11 +134,11 @@ finished_by t new count r last (ends.Signal kind pc) stands counted told =
 pub finishes : (t new : Told) (r : Run) (finish : Finish) → RunGives t r (Ok finish) new → IsFinished t (due_run r) finish new
 finishes t new r finish gives = finished_by t new finish.count r gives.0 finish.end gives.1 gives.2 gives.3
 
-pub no_room : (t : Told) (p : Program) (w : World) (finish : Finish) (mid : Told) → IsFinished t (due_run (run_of_program p w)) finish mid → Refuses t (Ok p) w refusals.NoMemory mid
-no_room t p w finish mid done = inr (inr (status_of finish.end, done.answer_is, done.told_is))
+pub no_room : (t : Told) (p : Program) (w : World) (finish : Finish) (mid : Told) → IsFinished t (due_run (run_of_program p w)) finish mid → Refuses t (Ok (Runs p)) w refusals.NoMemory mid
+no_room t p w finish mid done = inr (inr (p, refl, (status_of finish.end, done.answer_is, done.told_is)))
 
 pub reported : (t : Told) (p : Program) (w : World) (finish : Finish) (mid new : Told) (text : List ℕ) (status : ℕ) → IsFinished t (due_run (run_of_program p w)) finish mid → text ≡ report_of finish.count (end_by finish.end)
-    → new ≡ sent_to Report text mid → status ≡ status_of finish.end → AttemptGives t (Ok p) w (Ok status) new
+    → new ≡ sent_to Report text mid → status ≡ status_of finish.end → AttemptGives t (Ok (Runs p)) w (Ok status) new
 reported t p w finish mid new text status done is wrote status_is =
     let d = due_run (run_of_program p w) in (
       done.answer_is ∙ ap (λ (n : ℕ). Ended n []) (sym status_is),
@@ -145,7 +146,7 @@ reported t p w finish mid new text status done is wrote status_is =
     )
 
 pub not_reported : (t : Told) (p : Program) (w : World) (finish : Finish) (mid new : Told) (text : List ℕ) → IsFinished t (due_run (run_of_program p w)) finish mid → text ≡ report_of finish.count (end_by finish.end)
-    → PartSent Report text mid new → Refuses t (Ok p) w refusals.ReportFault new
+    → PartSent Report text mid new → Refuses t (Ok (Runs p)) w refusals.ReportFault new
 not_reported t p w finish mid new text done is wrote =
     let d = due_run (run_of_program p w) in (
       status_of finish.end,
@@ -157,3 +158,19 @@ not_reported t p w finish mid new text done is wrote =
 pub begun : (image : ImageFields) (strings : List (List ℕ)) (budget : ℕ) (m : Machine) (w : World) → m ≡ machine_of image strings
     → record { image = image; start = start_of m w; budget = budget } ≡ run_of_program (record { image = image; strings = strings; budget = budget }) w
 begun image strings budget m w is = ap (λ (k : Machine). record { image = image; start = start_of k w; budget = budget }) is
+
+-- a text that was written, where the input and the moments are told
+shown_delivered : (t : Told) (text : List ℕ) (w : World) → t.input ≡ Some w.input → t.moments ≡ Some w.moments → sent_to Out text t ≡ delivered t (due_shown text w) []
+shown_delivered t text w input moments =
+    ap (λ (o : Option (List ℕ)). record t { input = o; out = appended t.out text }) input
+    ∙ ap (λ (o : Option (List ℕ)). record t { input = Some w.input; moments = o; out = appended t.out text }) moments
+    ∙ ap (λ (o : Option (List ℕ)). record t { input = Some w.input; moments = Some w.moments; out = appended t.out text; err = o }) (sym (appended-nil t.err))
+    ∙ ap (λ (o : Option (List ℕ)). record t { input = Some w.input; moments = Some w.moments; out = appended t.out text; err = appended t.err []; report = o }) (sym (appended-nil t.report))
+
+pub shown : (t new : Told) (task : Result Task Refusal) (text : List ℕ) (w : World) → OfText task (λ due. text ≡ due) → t.input ≡ Some w.input → t.moments ≡ Some w.moments → new ≡ sent_to Out text t → AttemptGives t task w (Ok 0) new
+shown t new task text w of input moments wrote =
+    subst (λ (k : Result Task Refusal). AttemptGives t k w (Ok 0) new) (sym of.1)
+    (refl, wrote ∙ (ap (λ (xs : List ℕ). sent_to Out xs t) of.2 ∙ shown_delivered t (view_text of.0) w input moments))
+
+pub not_shown : (t new : Told) (task : Result Task Refusal) (text : List ℕ) (w : World) → OfText task (λ due. text ≡ due) → PartSent Out text t new → Refuses t task w (refusals.OutputFault Out) new
+not_shown t new task text w of wrote = inr (of.0, of.1, (refl, subst (λ (xs : List ℕ). PartSent Out xs t new) of.2 wrote))

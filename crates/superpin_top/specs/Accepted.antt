@@ -1,8 +1,8 @@
 -- The words that are accepted, form by form.
-use Rattle.std.specs.Prelude.{◌≡◌, ◌≢◌, ◌⊎◌, ℕ, ◌<◌, ◌≤◌, List, ◌∷◌, ◌++◌, length, codes}
+use Rattle.std.specs.Prelude.{◌≡◌, ◌≢◌, ◌⊎◌, ℕ, ◌<◌, ◌≤◌, List, [], ◌∷◌, ◌++◌, length, codes}
 use Rattle.std.specs.List.{All}
 use Rattle.std.specs.Fmt.{decimal}
-use Rattle.superpin_top.specs.Words.{Request, most_budget, default_budget}
+use Rattle.superpin_top.specs.Words.{Asked, ToRun, ToView, Request, most_budget, default_budget}
 
 -- a word that does not begin with a hyphen; the empty word is one
 abbrev pub IsPlain : List ℕ → Type 0
@@ -28,6 +28,15 @@ IsWithBudgetBehind words r = (words ≡ codes "run" ∷ codes "--by" ∷ codes "
 abbrev pub IsWithBudgetBefore : List (List ℕ) → Request → Type 0
 IsWithBudgetBefore words r = (words ≡ codes "run" ∷ codes "--budget" ∷ decimal r.budget ∷ codes "--by" ∷ codes "serial" ∷ r.strings) × IsBudget r.budget
 
--- The words are `run`, then `--by serial`, with `--budget N` before or behind it or left out, then the program's name and arguments.
-abbrev pub AreAccepted : List (List ℕ) → Request → Type 0
-AreAccepted words r = IsCommand r.strings × (IsWithoutBudget words r ⊎ (IsWithBudgetBehind words r ⊎ IsWithBudgetBefore words r))
+-- `run`, then `--by serial`, with `--budget N` before or behind it or left out, then the program's name and arguments
+abbrev pub AreRun : List (List ℕ) → Request → Type 0
+AreRun words r = IsCommand r.strings × (IsWithoutBudget words r ⊎ (IsWithBudgetBehind words r ⊎ IsWithBudgetBefore words r))
+
+-- `view FILE`
+abbrev pub AreView : List (List ℕ) → List ℕ → Type 0
+AreView words file = (words ≡ codes "view" ∷ file ∷ []) × IsPlain file
+
+-- the forms of the commands
+abbrev pub AreAccepted : List (List ℕ) → Asked → Type 0
+AreAccepted words (ToRun r) = AreRun words r
+AreAccepted words (ToView file) = AreView words file

@@ -6,12 +6,12 @@ use Rattle.elf_load.specs.Elf.{refusal_of, image_of}
 use Rattle.elf_load.specs.Image.{ImageFields}
 use Rattle.elf_load.specs.declared.fault.ElfFault.{ElfFault}
 use Rattle.guest_model.specs.Call.{World, Sent}
-use Rattle.guest_model.specs.Machine.{Machine}
 use Rattle.guest_model.specs.Runs.{RunState, Running, Ended as RunEnded}
 use Rattle.guest_model.specs.Serial.{Position, End, Exit, Signal, Unsupported, TraceItem, bytes_to, run_of, sent_of, trace_of}
 use Rattle.guest_model.specs.declared.platform.TheConstants.{MOST_STRINGS}
 use Rattle.rv_machine.specs.Load.{machine_of, strings_size}
-use Rattle.superpin_top.specs.Words.{Request, asked}
+use Rattle.sp_report.specs.View.{view_text}
+use Rattle.superpin_top.specs.Words.{Asked, ToRun, ToView, asked}
 use Rattle.superpin_top.specs.Report.{count_of, report_of, refusal_line}
 use Rattle.superpin_top.specs.Start.{Run, start_of}
 use Rattle.superpin_top.specs.declared.answer.Answer.{Answer}
@@ -34,30 +34,46 @@ pub record Program : Type 0 where
   pub strings : List (List ℕ)
   pub budget : ℕ
 
+-- what is to be done: a program runs, or the code of an image is shown
+pub data Task : Type 0 where
+  Runs : (program : Program) → Task
+  Shows : (image : ImageFields) → Task
+
 -- the name of the program's file is the first of its strings
 abbrev pub name_of : List (List ℕ) → List ℕ
 name_of strings = slice_index_or strings 0 []
 
-abbrev pub program_of_image : List ℕ → Request → Result Program Refusal
-program_of_image file a =
-    if nat_lt MOST_STRINGS (strings_size a.strings) then Err (refusals.ArgsTooLong (min (strings_size a.strings) (2 ^ 64 - 1)))
-    else Ok (record { image = image_of file; strings = a.strings; budget = a.budget })
+-- the file that is asked for
+abbrev pub file_asked : Asked → List ℕ
+file_asked (ToRun r) = name_of r.strings
+file_asked (ToView file) = file
+
+-- the strings of a run may be too long
+abbrev pub task_of_image : List ℕ → Asked → Result Task Refusal
+task_of_image file (ToRun r) =
+    if nat_lt MOST_STRINGS (strings_size r.strings) then Err (refusals.ArgsTooLong (min (strings_size r.strings) (2 ^ 64 - 1)))
+    else Ok (Runs (record { image = image_of file; strings = r.strings; budget = r.budget }))
+task_of_image file (ToView name) = Ok (Shows (image_of file))
 
 -- the first fault of the file, if it has one
-abbrev pub program_of_tested : Option ElfFault → List ℕ → Request → Result Program Refusal
-program_of_tested (Some fault) file a = Err (refusals.Elf fault)
-program_of_tested None file a = program_of_image file a
+abbrev pub task_of_tested : Option ElfFault → List ℕ → Asked → Result Task Refusal
+task_of_tested (Some fault) file a = Err (refusals.Elf fault)
+task_of_tested None file a = task_of_image file a
 
-abbrev pub program_of_file : List ℕ → Request → Result Program Refusal
-program_of_file file a = if nat_lt most_file (length file) then Err refusals.FileTooLarge else program_of_tested (refusal_of file) file a
+abbrev pub task_of_file : List ℕ → Asked → Result Task Refusal
+task_of_file file a = if nat_lt most_file (length file) then Err refusals.FileTooLarge else task_of_tested (refusal_of file) file a
 
-abbrev pub program_of_request : Option Request → Files → Result Program Refusal
-program_of_request None files = Err refusals.NotBuilt
-program_of_request (Some a) files = program_of_file (file_of files (name_of a.strings)) a
+-- what is asked for, done with the file of its name
+abbrev pub task_in : Files → Asked → Result Task Refusal
+task_in files a = task_of_file (file_of files (file_asked a)) a
 
--- the program that the words ask for, or the first refusal
-unfoldable pub program_of : List (List ℕ) → Files → Result Program Refusal
-program_of words files = program_of_request (asked words) files
+abbrev pub task_of_asked : Option Asked → Files → Result Task Refusal
+task_of_asked None files = Err refusals.NotBuilt
+task_of_asked (Some a) files = task_in files a
+
+-- what the words ask for, or the first refusal
+unfoldable pub task_of : List (List ℕ) → Files → Result Task Refusal
+task_of words files = task_of_asked (asked words) files
 
 -- its run, with this input and these moments
 abbrev pub run_of_program : Program → World → Run
@@ -83,12 +99,17 @@ due_state r (RunEnded p end) items sent = due_ended end (report_of (count_of r.i
 abbrev pub due_run : Run → Due
 due_run r = due_state r (run_of r.budget r.start) (trace_of r.budget r.start) (sent_of r.budget r.start)
 
-abbrev pub due_program : Result Program Refusal → World → Due
-due_program (Err refusal) w = due_refused refusal [] w
-due_program (Ok p) w = due_run (run_of_program p w)
+-- what is due where a text is shown
+abbrev pub due_shown : List ℕ → World → Due
+due_shown text left = record { answer = Ended 0 []; out = text; err = []; report = []; left = left }
+
+abbrev pub due_task : Result Task Refusal → World → Due
+due_task (Err refusal) w = due_refused refusal [] w
+due_task (Ok (Runs p)) w = due_run (run_of_program p w)
+due_task (Ok (Shows image)) w = due_shown (view_text image) w
 
 abbrev pub due_of : List (List ℕ) → Files → World → Due
-due_of words files w = due_program (program_of words files) w
+due_of words files w = due_task (task_of words files) w
 
 -- what is told once the due bytes were written, and this report
 abbrev pub delivered : Told → Due → List ℕ → Told

@@ -1,15 +1,17 @@
 -- What is answered, and what stands where then.
-use Rattle.std.specs.Prelude.{◌≡◌, ◌≢◌, ℕ, ◌-◌, ◌^◌, ◌<◌, ◌||◌, true, List, [], ◌++◌, Option, None, Some, Result, Ok, Err, ◌⊎◌, ◌↔◌}
+use Rattle.std.specs.Prelude.{◌≡◌, ◌≢◌, ℕ, ◌-◌, ◌^◌, ◌<◌, ◌||◌, true, List, [], ◌++◌, Option, Some, Result, Ok, Err, ◌⊎◌, ◌↔◌}
 use Rattle.sp_host.specs.Told.{Told, Files, appended, sent as sent_to, PartSent}
 use Rattle.sp_host.specs.Faults.{To, Faults, Faulted}
-use Rattle.sp_host.specs.declared.host.Port.TheVariants.{Report}
+use Rattle.sp_host.specs.declared.host.Port.TheVariants.{Out, Report}
+use Rattle.elf_load.specs.Image.{ImageFields}
 use Rattle.guest_model.specs.Call.{World}
 use Rattle.guest_model.specs.Serial.{sent_at}
 use Rattle.syscall_layer.specs.Serve.{PartWritten}
 use Rattle.superpin_top.specs.Run.{LacksMemory, StopsInput, StepBefore}
 use Rattle.superpin_top.specs.Start.{Run}
 use Rattle.superpin_top.specs.Report.{refusal_line}
-use Rattle.superpin_top.specs.Due.{Due, Program, delivered, due_program, run_of_program}
+use Rattle.sp_report.specs.View.{view_text}
+use Rattle.superpin_top.specs.Due.{Due, Program, Task, Runs, Shows, delivered, due_run, due_task, run_of_program}
 use Rattle.superpin_top.specs.Causes.{CausedBy, is_early, is_of_run}
 use Rattle.superpin_top.specs.declared.answer.Answer.{Answer}
 use Rattle.superpin_top.specs.declared.answer.Answer.TheVariants.{Ended, Refused}
@@ -25,31 +27,38 @@ pub record IsDue (t : Told) (d : Due) (answer : Answer) (new : Told) : Type 0 wh
   pub answer_is : d.answer ≡ answer
   pub told_is : new ≡ delivered t d []
 
--- a step of the program's run
-abbrev pub StepOf : Result Program Refusal → World → (Run → Type 0) → Type 0
-StepOf program w P = (p : Program) × (program ≡ Ok p) × P (run_of_program p w)
+-- what is to be done is this run
+abbrev pub OfRun : Result Task Refusal → World → (Run → Type 0) → Type 0
+OfRun task w P = (p : Program) × (task ≡ Ok (Runs p)) × P (run_of_program p w)
 
--- The places at which the outside stands when a run is refused, before the line of the refusal is written.
+-- what is to be done is to show this text
+abbrev pub OfText : Result Task Refusal → (List ℕ → Type 0) → Type 0
+OfText task P = (image : ImageFields) × (task ≡ Ok (Shows image)) × P (view_text image)
+
+-- The places at which the outside stands when a command is refused, before the line of the refusal is written.
 -- After a file fault nothing was written. A refusal that is due comes with the due bytes: none before a run, and in a run those
 -- of the steps that ran. After an input fault they are the bytes of the steps before a call that reads, and a beginning of
--- what it asks for was taken from the input. After an output fault they are the bytes of the steps before a call that writes,
--- and a proper beginning of that call's. After a report fault they are the whole run's, and a proper beginning of the report.
--- Memory is wanting before the run, where nothing was written, before a call that takes memory, or after a run that ended.
-abbrev pub Refuses : Told → Result Program Refusal → World → Refusal → Told → Type 0
-Refuses t program w refusals.FileFault new = new ≡ t
-Refuses t program w refusals.InputFault new = StepOf program w (λ r. StepBefore r (λ q before. StopsInput t q before new))
-Refuses t program w (refusals.OutputFault port) new = StepOf program w (λ r. StepBefore r (λ q before. PartWritten t q.world before port (sent_at q) new))
-Refuses t program w refusals.ReportFault new =
-    (status : ℕ) × ((due_program program w).answer ≡ Ended status []) × PartSent Report (due_program program w).report (delivered t (due_program program w) []) new
-Refuses t program w refusals.NoMemory new =
+-- what it asks for was taken from the input. After an output fault of a run they are the bytes of the steps before a call that
+-- writes, and a proper beginning of that call's; where a text is shown, a proper beginning of it on the standard output. After
+-- a report fault they are the whole run's, and a proper beginning of the report. Memory is wanting before a run, or before a
+-- text is written, where nothing was written; before a call that takes memory; or after a run that ended.
+abbrev pub Refuses : Told → Result Task Refusal → World → Refusal → Told → Type 0
+Refuses t task w refusals.FileFault new = new ≡ t
+Refuses t task w refusals.InputFault new = OfRun task w (λ r. StepBefore r (λ q before. StopsInput t q before new))
+Refuses t task w (refusals.OutputFault port) new =
+    (OfRun task w (λ r. StepBefore r (λ q before. PartWritten t q.world before port (sent_at q) new)))
+    ⊎ (OfText task (λ text. (port ≡ Out) × PartSent Out text t new))
+Refuses t task w refusals.ReportFault new =
+    (status : ℕ) × ((due_task task w).answer ≡ Ended status []) × PartSent Report (due_task task w).report (delivered t (due_task task w) []) new
+Refuses t task w refusals.NoMemory new =
     (new ≡ t)
-    ⊎ (StepOf program w (λ r. StepBefore r (λ q before. LacksMemory t q before new))
-    ⊎ ((status : ℕ) × ((due_program program w).answer ≡ Ended status []) × (new ≡ delivered t (due_program program w) [])))
-Refuses t program w refusal new = IsDue t (due_program program w) (Refused refusal) new
+    ⊎ (OfRun task w (λ r. StepBefore r (λ q before. LacksMemory t q before new))
+    ⊎ OfRun task w (λ r. (status : ℕ) × ((due_run r).answer ≡ Ended status []) × (new ≡ delivered t (due_run r) [])))
+Refuses t task w refusal new = IsDue t (due_task task w) (Refused refusal) new
 
-abbrev pub AttemptGives : Told → Result Program Refusal → World → Result ℕ Refusal → Told → Type 0
-AttemptGives t program w (Ok status) new = ((due_program program w).answer ≡ Ended status []) × (new ≡ delivered t (due_program program w) (due_program program w).report)
-AttemptGives t program w (Err refusal) new = Refuses t program w refusal new
+abbrev pub AttemptGives : Told → Result Task Refusal → World → Result ℕ Refusal → Told → Type 0
+AttemptGives t task w (Ok status) new = ((due_task task w).answer ≡ Ended status []) × (new ≡ delivered t (due_task task w) (due_task task w).report)
+AttemptGives t task w (Err refusal) new = Refuses t task w refusal new
 
 -- the line of a refusal was written, or a proper beginning of it where the count of Report rose
 pub record WritesLine (refusal : Refusal) (old new : Told) (before now : Faults) : Type 0 where
@@ -60,18 +69,18 @@ pub record WritesLine (refusal : Refusal) (old new : Told) (before now : Faults)
   pub cause : ((rest ≡ []) × (now ≡ before)) ⊎ ((rest ≢ []) × Faulted (To Report) before now)
 
 -- Where the outside stood before the line of a refusal, and after it.
-pub record IsRefused (t : Told) (program : Result Program Refusal) (w : World) (refusal : Refusal) (before : Faults) (new : Told) (now : Faults) : Type 0 where
+pub record IsRefused (t : Told) (task : Result Task Refusal) (w : World) (refusal : Refusal) (before : Faults) (new : Told) (now : Faults) : Type 0 where
   pub mid : Told
   pub middle : Faults
-  pub refuses : Refuses t program w refusal mid
+  pub refuses : Refuses t task w refusal mid
   pub caused : CausedBy refusal before middle
   pub writes : WritesLine refusal mid new middle now
 
 -- the outcome
-abbrev pub Outcome : Told → Result Program Refusal → World → Faults → Answer → Told → Faults → Type 0
-Outcome t program w before (Ended status cuts) new now =
-    ((due_program program w).answer ≡ Ended status cuts) × (new ≡ delivered t (due_program program w) (due_program program w).report) × (now ≡ before)
-Outcome t program w before (Refused refusal) new now = IsRefused t program w refusal before new now
+abbrev pub Outcome : Told → Result Task Refusal → World → Faults → Answer → Told → Faults → Type 0
+Outcome t task w before (Ended status cuts) new now =
+    ((due_task task w).answer ≡ Ended status cuts) × (new ≡ delivered t (due_task task w) (due_task task w).report) × (now ≡ before)
+Outcome t task w before (Refused refusal) new now = IsRefused t task w refusal before new now
 
 -- each count can still rise
 pub record CanRise (f : Faults) : Type 0 where
@@ -92,29 +101,29 @@ pub record NoneRose (before now : Faults) : Type 0 where
 abbrev pub IsDelivered : Told → Due → Answer → Told → Type 0
 IsDelivered t d answer new = (answer ≡ Refused refusals.NoMemory) ⊎ ((answer ≡ d.answer) × (new ≡ delivered t d d.report))
 
--- the program was accepted
-abbrev pub IsAccepted : Result Program Refusal → Type 0
-IsAccepted program = (p : Program) × (program ≡ Ok p)
+-- the words and the file were accepted
+abbrev pub IsAccepted : Result Task Refusal → Type 0
+IsAccepted task = (accepted : Task) × (task ≡ Ok accepted)
 
 -- what the words and the file decide of an attempt; where the file could not be read, or memory was wanting, nothing
-abbrev pub IsDecided : Result Program Refusal → Result ℕ Refusal → Type 0
-IsDecided program (Ok status) = IsAccepted program
-IsDecided program (Err refusals.FileFault) = Unit {0}
-IsDecided program (Err refusals.NoMemory) = Unit {0}
-IsDecided program (Err refusals.FileTooLarge) = program ≡ Err refusals.FileTooLarge
-IsDecided program (Err (refusals.Elf fault)) = program ≡ Err (refusals.Elf fault)
-IsDecided program (Err (refusals.ArgsTooLong bytes)) = program ≡ Err (refusals.ArgsTooLong bytes)
-IsDecided program (Err refusals.NotBuilt) = program ≡ Err refusals.NotBuilt
-IsDecided program (Err _) = IsAccepted program
+abbrev pub IsDecided : Result Task Refusal → Result ℕ Refusal → Type 0
+IsDecided task (Ok status) = IsAccepted task
+IsDecided task (Err refusals.FileFault) = Unit {0}
+IsDecided task (Err refusals.NoMemory) = Unit {0}
+IsDecided task (Err refusals.FileTooLarge) = task ≡ Err refusals.FileTooLarge
+IsDecided task (Err (refusals.Elf fault)) = task ≡ Err (refusals.Elf fault)
+IsDecided task (Err (refusals.ArgsTooLong bytes)) = task ≡ Err (refusals.ArgsTooLong bytes)
+IsDecided task (Err refusals.NotBuilt) = task ≡ Err refusals.NotBuilt
+IsDecided task (Err _) = IsAccepted task
 
--- a run is answered as ended only where no count rose
+-- a status is answered only where no count rose
 abbrev pub IsEndedWhereNone : Answer → Faults → Faults → Type 0
 IsEndedWhereNone (Ended status cuts) before now = (now ≡ before) × (cuts ≡ [])
 IsEndedWhereNone (Refused refusal) before now = Unit {0}
 
 -- a refusal that the words and the file decide comes exactly where they do
-abbrev pub IsEarly : Result Program Refusal → Answer → Type 0
-IsEarly program answer = (refusal : Refusal) → is_early refusal ≡ true → (answer ≡ Refused refusal) ↔ (program ≡ Err refusal)
+abbrev pub IsEarly : Result Task Refusal → Answer → Type 0
+IsEarly task answer = (refusal : Refusal) → is_early refusal ≡ true → (answer ≡ Refused refusal) ↔ (task ≡ Err refusal)
 
 -- where a run that ended is answered as such, and where as a fault of its report
 abbrev pub IsReported : Due → ℕ → ℕ → Answer → Type 0

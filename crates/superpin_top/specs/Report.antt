@@ -1,5 +1,5 @@
 -- The report of a run, and the lines of refusals.
-use Rattle.std.specs.Prelude.{ℕ, ◌+◌, ◌/◌, ◌%◌, ◌^◌, ◌&&◌, Bool, List, [], ◌∷◌, ◌++◌, nat_lt, nat_le, codes, count_by, if◌then◌else◌}
+use Rattle.std.specs.Prelude.{ℕ, ◌+◌, ◌&&◌, Bool, List, [], ◌++◌, nat_le, codes, count_by}
 use Rattle.std.specs.Fmt.{decimal}
 use Rattle.std.specs.List.{list_any}
 use Rattle.sp_host.specs.declared.host.Port.{Port}
@@ -8,6 +8,7 @@ use Rattle.elf_load.specs.Image.{ImageFields, SegmentFields, is_executable}
 use Rattle.elf_load.specs.declared.fault.ElfFault.{ElfFault}
 use Rattle.elf_load.specs.declared.fault.ElfFault.TheVariants as elf
 use Rattle.guest_model.specs.Serial.{End, Exit, Signal, Unsupported, TraceItem}
+use Rattle.sp_report.specs.Digits.{address_text}
 use Rattle.superpin_top.specs.declared.answer.Refusal.{Refusal}
 use Rattle.superpin_top.specs.declared.answer.Refusal.TheVariants as refusals
 
@@ -26,25 +27,6 @@ count_of image items = count_by (λ item. is_in_code image.segments item.before.
 -- the text of the tool that counts instructions, and what follows it
 abbrev pub count_text : ℕ → List ℕ → List ℕ
 count_text count rest = codes "icount " ++ (decimal count ++ (codes "\n" ++ rest))
-
--- a lower-case hexadecimal digit, and the eight of a number of 32 bits
-abbrev pub hex_digit : ℕ → ℕ
-hex_digit d = if nat_lt d 10 then 48 + d else 87 + d
-
-abbrev pub eight_digits : ℕ → List ℕ
-eight_digits n =
-    hex_digit (n / 2 ^ 28 % 16)
-    ∷ hex_digit (n / 2 ^ 24 % 16)
-    ∷ hex_digit (n / 2 ^ 20 % 16)
-    ∷ hex_digit (n / 2 ^ 16 % 16)
-    ∷ hex_digit (n / 2 ^ 12 % 16)
-    ∷ hex_digit (n / 2 ^ 8 % 16)
-    ∷ hex_digit (n / 2 ^ 4 % 16)
-    ∷ hex_digit (n % 16)
-    ∷ []
-
-abbrev pub address_text : ℕ → List ℕ
-address_text n = codes "0x" ++ eight_digits n
 
 -- the end line; a run that ends at a call without a row has none
 abbrev pub end_text : End → List ℕ

@@ -1,10 +1,12 @@
 -- What the parts of the top call answer.
-use Rattle.std.specs.Prelude.{◌≡◌, ◌<◌, ◌≤◌, ◌≢◌, List, ℕ, length, Result, Ok, Err, Vec}
+use Rattle.std.specs.Prelude.{◌≡◌, ◌<◌, ◌≤◌, ◌≢◌, List, ℕ, length, None, Some, Result, Ok, Err, Vec}
 use Rattle.std.specs.declared.alloc.Global.{Global}
 use Rattle.sp_host.specs.Whole.{most_file}
+use Rattle.elf_load.specs.Elf.{refusal_of, image_of}
 use Rattle.elf_load.specs.Image.{ImageFields}
 use Rattle.rv_machine.specs.Load.{machine_of}
-use Rattle.superpin_top.specs.Due.{Program}
+use Rattle.superpin_top.specs.Due.{Task, Runs}
+use Rattle.superpin_top.specs.Outcome.{OfText}
 use Rattle.superpin_top.specs.declared.answer.Refusal.{Refusal}
 use Rattle.superpin_top.specs.declared.answer.Refusal.TheVariants as refusals
 use Rattle.superpin_top.specs.declared.top.Loaded.{Loaded}
@@ -17,16 +19,32 @@ ReadGives file (Err refusals.FileTooLarge) = most_file < length file
 ReadGives file (Err refusals.NoMemory) = Unit {0}
 ReadGives file (Err _) = ⊥
 
--- the loaded program, or the refusal before its run; a fault of the file and want of memory come with no such cause
-abbrev pub LoadGives : Result Program Refusal → List (List ℕ) → ℕ → Result Loaded Refusal → Type 0
-LoadGives program strings budget (Ok loaded) =
-    (program ≡ Ok (record { image = loaded.image; strings = strings; budget = budget })) × (loaded.guest.machine ≡ machine_of loaded.image strings)
-LoadGives program strings budget (Err refusals.FileFault) = Unit {0}
-LoadGives program strings budget (Err refusals.FileTooLarge) = program ≡ Err refusals.FileTooLarge
-LoadGives program strings budget (Err (refusals.Elf fault)) = program ≡ Err (refusals.Elf fault)
-LoadGives program strings budget (Err (refusals.ArgsTooLong bytes)) = program ≡ Err (refusals.ArgsTooLong bytes)
-LoadGives program strings budget (Err refusals.NoMemory) = Unit {0}
-LoadGives program strings budget (Err _) = ⊥
+-- a refusal before a run begins, or before a text is written; a fault of the file and want of memory come with no such cause
+abbrev pub IsBefore : Result Task Refusal → Refusal → Type 0
+IsBefore task refusals.FileFault = Unit {0}
+IsBefore task refusals.FileTooLarge = task ≡ Err refusals.FileTooLarge
+IsBefore task (refusals.Elf fault) = task ≡ Err (refusals.Elf fault)
+IsBefore task (refusals.ArgsTooLong bytes) = task ≡ Err (refusals.ArgsTooLong bytes)
+IsBefore task refusals.NoMemory = Unit {0}
+IsBefore task _ = ⊥
+
+-- the image of a file, or its first fault
+abbrev pub ImageGives : List ℕ → Result ImageFields Refusal → Type 0
+ImageGives file (Ok image) = (refusal_of file ≡ None) × (image ≡ image_of file)
+ImageGives file (Err (refusals.Elf fault)) = refusal_of file ≡ Some fault
+ImageGives file (Err refusals.NoMemory) = Unit {0}
+ImageGives file (Err _) = ⊥
+
+-- the loaded program, or the refusal before its run
+abbrev pub LoadGives : Result Task Refusal → List (List ℕ) → ℕ → Result Loaded Refusal → Type 0
+LoadGives task strings budget (Ok loaded) =
+    (task ≡ Ok (Runs (record { image = loaded.image; strings = strings; budget = budget }))) × (loaded.guest.machine ≡ machine_of loaded.image strings)
+LoadGives task strings budget (Err refusal) = IsBefore task refusal
+
+-- the text that is to be shown, or the refusal before it is written
+abbrev pub TextGives : Result Task Refusal → Result (Vec ℕ Global) Refusal → Type 0
+TextGives task (Ok text) = OfText task (λ shown. text.items ≡ shown)
+TextGives task (Err refusal) = IsBefore task refusal
 
 -- a refusal of a run that began
 abbrev pub IsLate : Refusal → Type 0

@@ -14,10 +14,15 @@ texts words = map (λ w. string_bytes w) words
 abbrev pub is_word : List ℕ → List ℕ → Bool
 is_word word bytes = pointwise nat_eq word bytes
 
--- what is asked for: the most steps of the run, and the strings that the program gets, the first of which names its file
+-- a run that is asked for: the most steps, and the strings that the program gets, the first of which names its file
 pub record Request : Type 0 where
   pub budget : ℕ
   pub strings : List (List ℕ)
+
+-- what the words ask for: a run, or the text of the code of the file of this name
+pub data Asked : Type 0 where
+  ToRun : (request : Request) → Asked
+  ToView : (file : List ℕ) → Asked
 
 -- no option was given yet: the run is not asked to be serial, and no most steps are named
 abbrev pub no_options : Options
@@ -72,7 +77,21 @@ behind_options o (word ∷ value ∷ rest) =
     else asked_with o (word ∷ value ∷ rest)
 behind_options o words = asked_with o words
 
--- what the words ask for: `run`, options with `--by serial` among them, the file, and its arguments
-unfoldable pub asked : List (List ℕ) → Option Request
-asked [] = None
-asked (command ∷ words) = if is_word command (codes "run") then behind_options no_options words else None
+-- `run`, options with `--by serial` among them, the file, and its arguments
+unfoldable pub asked_run : List (List ℕ) → Option Request
+asked_run [] = None
+asked_run (command ∷ words) = if is_word command (codes "run") then behind_options no_options words else None
+
+-- `view` and the file
+unfoldable pub asked_view : List (List ℕ) → Option (List ℕ)
+asked_view (command ∷ file ∷ []) = if is_word command (codes "view") && is_plain file then Some file else None
+asked_view words = None
+
+-- what the words ask for, command by command
+abbrev pub asked_with_view : Option Request → Option (List ℕ) → Option Asked
+asked_with_view (Some request) view = Some (ToRun request)
+asked_with_view None (Some file) = Some (ToView file)
+asked_with_view None None = None
+
+unfoldable pub asked : List (List ℕ) → Option Asked
+asked words = asked_with_view (asked_run words) (asked_view words)

@@ -2,11 +2,13 @@
 #![tactic(auto)]
 
 mod answer;
+mod file;
 pub mod laws;
 mod program;
 mod report;
 mod run;
 mod top;
+mod view;
 mod words;
 
 pub use answer::{Answer, Cuts, Refusal, exit_code};

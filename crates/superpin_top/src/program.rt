@@ -1,7 +1,7 @@
 // What the program does between the system and the top call.
 ghost use Rattle.std.specs.Prelude.{◌≡◌, IfOk, IfErr};
 ghost use Rattle.superpin_top.specs.Answer.{exit_code_of};
-ghost use Rattle.superpin_top.specs.Due.{program_of};
+ghost use Rattle.superpin_top.specs.Due.{task_of};
 ghost use Rattle.superpin_top.specs.Outcome.{Outcome, WhereAllTold, WritesLine};
 ghost use Rattle.superpin_top.specs.Words.{texts};
 ghost use Rattle.superpin_top.specs.declared.answer.Answer.{Answer};
@@ -24,7 +24,7 @@ pub fn answer_words<H: Host + Send, P: Pacer + Send>(
 ) -> u8
     ensures read { IfOk words (λ words. WhereAllTold (H.told host.old) (λ files w.
         (answer : Answer) × (result ≡ exit_code_of answer) ×
-        Outcome (H.told host.old) (program_of (texts words.items) files) w
+        Outcome (H.told host.old) (task_of (texts words.items) files) w
         (H.faults host.old) answer (H.told host.new) (H.faults host.new))) }
     ensures unread { IfErr words (λ refusal. (result ≡ 125) ×
         WritesLine refusal (H.told host.old) (H.told host.new) (H.faults host.old) (H.faults host.new)) }

@@ -1,8 +1,8 @@
 // The report of a run, and the lines of refusals.
 ghost use Rattle.std.specs.Prelude.{◌≡◌, ◌+◌, ◌<◌, ◌≤◌, ◌++◌, ◌∷◌, [], IfOk, codes, decimal};
 ghost use Rattle.std.specs.Prelude.{length, string_bytes};
-ghost use Rattle.superpin_top.specs.Report.{report_of, end_text, hex_digit, eight_digits};
-ghost use Rattle.superpin_top.specs.Report.{address_text, elf_text, refusal_line as line_of};
+ghost use Rattle.sp_report.specs.Digits.{address_text, hex_digit};
+ghost use Rattle.superpin_top.specs.Report.{report_of, end_text, elf_text, refusal_line as line_of};
 ghost use Rattle.superpin_top.specs.Report.{port_name};
 ghost use Rattle.superpin_top.specs.Run.{end_by};
 
@@ -40,6 +40,7 @@ fn hex_digit(d: u32) -> &'static str
 }
 
 // An address, as `0x` and eight digits.
+#[tactic(auto, unfolding(sp_report::specs::Digits::eight_digits))]
 fn address_text(address: u32) -> ArrayString<10>
     ensures { result.bytes ≡ address_text address }
 {

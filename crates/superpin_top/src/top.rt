@@ -1,45 +1,34 @@
 // From the words to the answer.
 ghost use Rattle.std.specs.Prelude.{◌≡◌, ◌≢◌, ◌<◌, ◌≤◌, ◌↔◌, ◌^◌, ◌-◌, ℕ, List, [], length};
 ghost use Rattle.std.specs.Prelude.{None, Ok, Err, IfOk, IfErr, MatchResult};
-ghost use Rattle.sp_host.specs.Told.{Told, WhereTold, file_of};
+ghost use Rattle.sp_host.specs.Told.{Told, WhereTold};
 ghost use Rattle.sp_host.specs.Faults.{To, count_of};
 ghost use Rattle.elf_load.specs.Elf.{refusal_of};
 ghost use Rattle.guest_model.specs.Call.{World};
 ghost use Rattle.syscall_layer.specs.Serve.{told_after};
-ghost use Rattle.superpin_top.specs.Causes.{CausedBy, cause_of, refusal_of_read, refusal_of_run};
-ghost use Rattle.superpin_top.specs.Due.{name_of, program_of, program_of_file, program_of_tested};
-ghost use Rattle.superpin_top.specs.Due.{due_of};
+ghost use Rattle.superpin_top.specs.Causes.{CausedBy, cause_of, refusal_of_run};
+ghost use Rattle.superpin_top.specs.Due.{Runs, due_of, task_in, task_of, task_of_tested};
 ghost use Rattle.superpin_top.specs.Outcome.{WhereAllTold, AttemptGives, WritesLine, Outcome};
 ghost use Rattle.superpin_top.specs.Outcome.{CanRise};
 ghost use Rattle.superpin_top.specs.Outcome.{NoneRose, IsDelivered, IsDecided, IsEarly, IsCaused};
 ghost use Rattle.superpin_top.specs.Outcome.{AddsFront};
 ghost use Rattle.superpin_top.specs.Outcome.{IsEndedWhereNone};
-ghost use Rattle.superpin_top.specs.Words.{asked, texts};
-ghost use Rattle.superpin_top.specs.Top.{IsBuilt, IsLate, ReadGives, LoadGives};
+ghost use Rattle.superpin_top.specs.Words.{ToRun, asked, texts};
+ghost use Rattle.superpin_top.specs.Top.{IsBuilt, IsLate, LoadGives};
 ghost use Rattle.rv_machine.specs.Load.{machine_of};
 
 use crate::answer::{Answer, Cuts, Refusal};
+use crate::file::{load_image, read_program};
 use crate::report::{refusal_line, report};
 use crate::run::execute;
-use crate::words::asked;
-use elf_load::{ElfFault, Image, load};
+use crate::view::view_asked;
+use crate::words::{asked_run, asked_view};
+use elf_load::Image;
 use guest_model::platform::MOST_PAGES;
 use rv_machine::{Guest, LoadFault};
-use sp_host::{Host, Pacer, Port, ReadFault, read_whole, write_whole};
+use sp_host::{Host, Pacer, Port, write_whole};
 use std::alloc::Global;
 use syscall_layer::RunFault;
-
-impl From<ReadFault> for Refusal {
-    ghost from_gives = { λ fault refusal. refusal ≡ refusal_of_read fault };
-
-    fn from(fault: ReadFault) -> Self {
-        match fault {
-            ReadFault::FileFault => Refusal::FileFault,
-            ReadFault::FileTooLarge => Refusal::FileTooLarge,
-            ReadFault::NoMemory => Refusal::NoMemory,
-        }
-    }
-}
 
 impl From<RunFault> for Refusal {
     ghost from_gives = { λ fault refusal. refusal ≡ refusal_of_run fault };
@@ -62,35 +51,19 @@ pub(crate) struct Loaded {
     pub(crate) guest: Guest,
 }
 
-// The bytes of a file, if they are few enough.
-fn read_program<H: Host>(alloc: Global, host: &mut H, name: &str) -> Result<Vec<u8>, Refusal>
-    ensures told { H.told host.new ≡ H.told host.old }
-    ensures bytes { WhereTold (H.told host.old).files
-        (λ files. ReadGives (file_of files name.now) result) }
-    ensures faults { MatchResult result (λ _. H.faults host.new ≡ H.faults host.old)
-        (λ e. CausedBy e (H.faults host.old) (H.faults host.new)) }
-    ensures built { IfErr result IsBuilt }
-{
-    match read_whole(alloc, host, name) {
-        Ok(file) => Ok(file),
-        Err(fault) => Err(Refusal::from(fault)),
-    }
-}
-
 // The program of a file, at the start of its run, with these strings.
 fn start(alloc: Global, file: &[u8], strings: &[String]) -> Result<Loaded, Refusal>
     ensures loaded { (budget : ℕ) →
-        LoadGives (program_of_tested (refusal_of file.now) file.now
-        (record { budget = budget; strings = texts strings.now }))
+        LoadGives (task_of_tested (refusal_of file.now) file.now
+        (ToRun (record { budget = budget; strings = texts strings.now })))
         (texts strings.now) budget result }
     ensures frames { IfOk result (λ loaded. MOST_PAGES ≤ loaded.guest.frames.count) }
     ensures cause { IfErr result (λ e. cause_of e ≡ None) }
     ensures built { IfErr result IsBuilt }
 {
-    let image = match load(alloc, file) {
+    let image = match load_image(alloc, file) {
         Ok(image) => image,
-        Err(ElfFault::NoMemory) => return Err(Refusal::NoMemory),
-        Err(fault) => return Err(Refusal::Elf(fault)),
+        Err(refusal) => return Err(refusal),
     };
     match Guest::load(alloc, &image, strings, MOST_PAGES) {
         Ok(guest) => Ok(Loaded { image, guest }),
@@ -104,8 +77,7 @@ fn ready<H: Host>(alloc: Global, strings: &[String], host: &mut H) -> Result<Loa
     requires { 0 < length strings.now }
     ensures told { H.told host.new ≡ H.told host.old }
     ensures loaded { (budget : ℕ) → WhereTold (H.told host.old).files (λ files.
-        LoadGives (program_of_file (file_of files (name_of (texts strings.now)))
-        (record { budget = budget; strings = texts strings.now }))
+        LoadGives (task_in files (ToRun (record { budget = budget; strings = texts strings.now })))
         (texts strings.now) budget result) }
     ensures frames { IfOk result (λ loaded. MOST_PAGES ≤ loaded.guest.frames.count) }
     ensures faults { MatchResult result (λ _. H.faults host.new ≡ H.faults host.old)
@@ -130,7 +102,8 @@ fn run_loaded<H: Host>(
     ensures told { (t : Told) (w : World) (strings : List (List ℕ))
         → H.told host.old ≡ told_after t w [] →
         loaded.guest.machine ≡ machine_of loaded.image strings →
-        AttemptGives t (Ok (record { image = loaded.image; strings = strings; budget = budget })) w
+        AttemptGives t
+        (Ok (Runs (record { image = loaded.image; strings = strings; budget = budget }))) w
         result (H.told host.new) }
     ensures faults { MatchResult result (λ _. H.faults host.new ≡ H.faults host.old)
         (λ e. CausedBy e (H.faults host.old) (H.faults host.new)) }
@@ -150,22 +123,46 @@ fn run_loaded<H: Host>(
     }
 }
 
-// The run that the words ask for, with its report.
+// The run that is asked for, with its report.
+fn run_asked<H: Host>(
+    alloc: Global,
+    strings: &[String],
+    budget: u64,
+    host: &mut H,
+) -> Result<u8, Refusal>
+    requires { 0 < length strings.now }
+    ensures early { WhereTold (H.told host.old).files (λ files.
+        IsDecided (task_in files (ToRun (record { budget = budget; strings = texts strings.now })))
+        result) }
+    ensures told { WhereAllTold (H.told host.old) (λ files w. AttemptGives (H.told host.old)
+        (task_in files (ToRun (record { budget = budget; strings = texts strings.now })))
+        w result (H.told host.new)) }
+    ensures faults { MatchResult result (λ _. H.faults host.new ≡ H.faults host.old)
+        (λ e. CausedBy e (H.faults host.old) (H.faults host.new)) }
+    ensures built { IfErr result IsBuilt }
+{
+    match ready(alloc, strings, host) {
+        Ok(loaded) => run_loaded(alloc, host, loaded, budget),
+        Err(refusal) => Err(refusal),
+    }
+}
+
+// What the words ask for, done.
 fn attempt<H: Host>(alloc: Global, words: &[String], host: &mut H) -> Result<u8, Refusal>
     ensures words { (asked (texts words.now) ≡ None) ↔ (result ≡ Err Refusal.NotBuilt) }
     ensures early { WhereTold (H.told host.old).files (λ files.
-        IsDecided (program_of (texts words.now) files) result) }
+        IsDecided (task_of (texts words.now) files) result) }
     ensures told { WhereAllTold (H.told host.old) (λ files w.
-        AttemptGives (H.told host.old) (program_of (texts words.now) files) w result (H.told host.new)) }
+        AttemptGives (H.told host.old) (task_of (texts words.now) files) w result (H.told host.new)) }
     ensures faults { MatchResult result (λ _. H.faults host.new ≡ H.faults host.old)
         (λ e. CausedBy e (H.faults host.old) (H.faults host.new)) }
 {
-    let Some(asked) = asked(words) else {
-        return Err(Refusal::NotBuilt);
-    };
-    match ready(alloc, asked.strings, host) {
-        Ok(loaded) => run_loaded(alloc, host, loaded, asked.budget),
-        Err(refusal) => Err(refusal),
+    if let Some(asked) = asked_run(words) {
+        return run_asked(alloc, asked.strings, asked.budget, host);
+    }
+    match asked_view(words) {
+        Some(name) => view_asked(alloc, name, host),
+        None => Err(Refusal::NotBuilt),
     }
 }
 
@@ -180,9 +177,10 @@ pub(crate) fn refuse<H: Host>(host: &mut H, refusal: &Refusal)
     }
 }
 
-/// Runs what the words ask for: `run --by serial [--budget N] FILE [ARGS]`. The run's bytes go to
-/// the host's standard output and standard error, and its report, or the line of a refusal, to the
-/// port of reports. The pacer is not asked.
+/// Does what the words ask for. `run --by serial [--budget N] FILE [ARGS]`: the run's bytes go to
+/// the host's standard output and standard error, and its report to the port of reports. `view
+/// FILE`: the text of the file's code goes to the standard output. The line of a refusal goes to
+/// the port of reports. The pacer is not asked.
 ///
 /// The answer is the due one, but for the faults of the file, of the input, of the outputs and of
 /// the report, which come where their count rose, and for want of memory.
@@ -217,11 +215,11 @@ pub fn superpin<H: Host + Send, P: Pacer + Send>(
         (λ files. (H.faults host.old).file < 2 ^ 64 - 1 →
         (H.faults host.new).file ≡ (H.faults host.old).file →
         result ≢ Answer.Refused Refusal.NoMemory →
-        IsEarly (program_of (texts words.now) files) result) }
+        IsEarly (task_of (texts words.now) files) result) }
 
     // Where the host tells: what is answered, and what stands where then, for each answer.
     ensures outcome { WhereAllTold (H.told host.old) (λ files w.
-        Outcome (H.told host.old) (program_of (texts words.now) files) w
+        Outcome (H.told host.old) (task_of (texts words.now) files) w
         (H.faults host.old) result (H.told host.new) (H.faults host.new)) }
 
     // The headline: where no count rose, the answer is the due one with exactly the due bytes, or

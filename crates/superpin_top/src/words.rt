@@ -5,7 +5,7 @@ ghost use Rattle.std.specs.List.{list_all};
 ghost use Rattle.std.specs.Str.Parse.{digits_value, without_leading_plus};
 ghost use Rattle.superpin_top.specs.Words.{texts, is_digit, IsUnread, is_number, budget_of};
 ghost use Rattle.superpin_top.specs.Words.{is_plain, with_serial, with_budget, is_form, asked_with};
-ghost use Rattle.superpin_top.specs.Words.{behind_options, asked};
+ghost use Rattle.superpin_top.specs.Words.{behind_options, asked_run, asked_view};
 
 /// The most steps of a run, where the words name none.
 pub(crate) const DEFAULT_BUDGET: u64 = 1_000_000_000;
@@ -13,7 +13,7 @@ pub(crate) const DEFAULT_BUDGET: u64 = 1_000_000_000;
 // The most steps that the words can name.
 const MOST_BUDGET: u64 = 1_099_511_627_776;
 
-/// What the words ask for.
+/// A run that the words ask for.
 #[derive(Clone, Copy)]
 pub(crate) struct Request<'a> {
     /// The most steps of the run.
@@ -150,11 +150,11 @@ fn behind_options(options: Options, words: &[String]) -> Option<Request<'_>>
     asked_with(options, words)
 }
 
-/// What the words ask for, or None where they are in no form that is built.
-#[tactic(auto, unfolding(crate::specs::Words::asked))]
-pub(crate) fn asked(words: &[String]) -> Option<Request<'_>>
-    ensures asked { MatchOption result (asked (texts words.now) ≡ None)
-        (λ a. asked (texts words.now)
+/// The run that the words ask for, or None where they are in no form of a run that is built.
+#[tactic(auto, unfolding(crate::specs::Words::asked_run))]
+pub(crate) fn asked_run(words: &[String]) -> Option<Request<'_>>
+    ensures asked { MatchOption result (asked_run (texts words.now) ≡ None)
+        (λ a. asked_run (texts words.now)
         ≡ Some (record { budget = a.budget; strings = texts a.strings.now })) }
     ensures some { IfSome result (λ a. 0 < length a.strings.now) }
 {
@@ -169,4 +169,19 @@ pub(crate) fn asked(words: &[String]) -> Option<Request<'_>>
         budget: None,
     };
     behind_options(options, rest)
+}
+
+/// The file of which the words ask for a view, or None where they are in no form of one.
+#[tactic(auto, unfolding(crate::specs::Words::asked_view))]
+pub(crate) fn asked_view(words: &[String]) -> Option<&str>
+    ensures { MatchOption result (asked_view (texts words.now) ≡ None)
+        (λ file. asked_view (texts words.now) ≡ Some file.now) }
+{
+    let [command, file] = words else {
+        return None;
+    };
+    if command.as_str() != "view" || !is_plain(file) {
+        return None;
+    }
+    Some(file.as_str())
 }

@@ -26,7 +26,7 @@ fn words_are_read(rt: HostRuntime) -> Result<(), Fail> {
     Ok(())
 }
 
-const NOT_BUILT: [&[&str]; 13] = [
+const NOT_BUILT: [&[&str]; 17] = [
     &[],
     &["run"],
     &["run", "f"],
@@ -39,7 +39,11 @@ const NOT_BUILT: [&[&str]; 13] = [
     &["run", "--by", "serial", "--budget", "03", "f"],
     &["run", "--by", "serial", "--budget", "+3", "f"],
     &["run", "--by", "serial", "--budget", "1099511627777", "f"],
-    &["view", "f"],
+    &["view"],
+    &["view", "f", "g"],
+    &["view", "-f"],
+    &["view", "--by", "serial", "f"],
+    &["View", "f"],
 ];
 
 #[test]

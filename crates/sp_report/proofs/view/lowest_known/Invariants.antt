@@ -1,4 +1,4 @@
-use Rattle.std.proofs.Common.{◌≡◌, ◌+◌, ◌≤◌, map, take}
+use Rattle.std.proofs.Common.{◌≡◌, ◌+◌, ◌≤◌, take}
 use Rattle.std.specs.Prelude.{fold, None, IfSome}
 use Rattle.sp_report.specs.View.{known_code, lower}
 use Rattle.sp_report.proofs.view.lowest_known.Given as goal

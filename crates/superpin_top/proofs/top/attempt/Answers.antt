@@ -1,67 +1,62 @@
-use Rattle.std.proofs.Common.{◌≡◌, ℕ, refl, sym, subst, ◌∙◌}
-use Rattle.std.specs.Prelude.{Result, Ok, Err, IfErr, None, Some}
-use Rattle.superpin_top.specs.Causes.{IsOfGuest}
-use Rattle.superpin_top.specs.Due.{Program, program_of}
-use Rattle.superpin_top.specs.Outcome.{AttemptGives, IsDecided, Refuses}
-use Rattle.superpin_top.specs.Top.{IsLate, LoadGives}
-use Rattle.superpin_top.specs.Words.{Request, texts}
+use Rattle.std.proofs.Common.{ℕ, refl, sym, subst, ◌∙◌}
+use Rattle.std.specs.Prelude.{Result, IfErr}
+use Rattle.superpin_top.specs.Due.{Task}
+use Rattle.superpin_top.specs.Outcome.{AttemptGives, IsDecided}
+use Rattle.superpin_top.specs.Top.{IsBuilt}
+use Rattle.superpin_top.specs.Words.{Request, ToRun, ToView, texts}
 use Rattle.superpin_top.specs.declared.answer.Refusal.{Refusal}
-use Rattle.superpin_top.specs.declared.answer.Refusal.TheVariants as refusals
-use Rattle.superpin_top.proofs.Outcomes.{at_begin}
-use Rattle.superpin_top.proofs.Ready.{attempt_none, is_asked, not_asked, ran_decides, unready, unready_decides}
+use Rattle.superpin_top.proofs.Ready.{attempt_none, is_asked, none_asked, not_asked, run_is_asked, view_is_asked}
 use Rattle.superpin_top.proofs.top.attempt.Goals as goal
 
-pub returns-in_default-clause-told : goal.returns-in_default-clause-told
-returns-in_default-clause-told g c files w files_are input moments =
-    attempt_none (g.H.Host.told c.args.host.now) (g.H.Host.told c.args.host.now) (texts c.args.words.now) files w c.in_default.ensures.asked input moments refl
-
-pub returns-in-Ok-clause-told : goal.returns-in-Ok-clause-told
-returns-in-Ok-clause-told g c files w files_are input moments =
-    let t = g.H.Host.told c.args.host.now in
-    let words = texts c.args.words.now in
-    let strings = texts c.in-Some.asked.strings.now in
-    let a : Request = record { budget = c.in-Some.asked.budget; strings = strings } in
-    let loads = c.in-Ok.ensures.loaded a.budget files files_are in
-    subst (λ (p : Result Program Refusal). AttemptGives t p w c.run_loaded.result (g.H.Host.told c.run_loaded.new.host)) (sym loads.0 ∙ is_asked words files a c.in-Some.ensures.asked)
-    (c.run_loaded.ensures.told t w strings (c.in-Ok.ensures.told ∙ at_begin t w input moments) loads.1)
-
-pub returns-in-Err-clause-told : goal.returns-in-Err-clause-told
-returns-in-Err-clause-told g c files w files_are input moments =
-    let t = g.H.Host.told c.args.host.now in
-    let words = texts c.args.words.now in
-    let strings = texts c.in-Some.asked.strings.now in
-    let a : Request = record { budget = c.in-Some.asked.budget; strings = strings } in
-    let loads = subst (λ (p : Result Program Refusal). LoadGives p strings a.budget (Err c.in-Err.refusal)) (is_asked words files a c.in-Some.ensures.asked) (c.in-Err.ensures.loaded a.budget files files_are) in
-    unready t (g.H.Host.told c.ready.new.host) (program_of words files) strings a.budget w c.in-Err.refusal loads input moments c.in-Err.ensures.told
-
-pub returns-in_default-clause-early : goal.returns-in_default-clause-early
-returns-in_default-clause-early g c files files_are = not_asked (texts c.args.words.now) files c.in_default.ensures.asked
-
-pub returns-in-Ok-clause-early : goal.returns-in-Ok-clause-early
-returns-in-Ok-clause-early g c files files_are =
-    let words = texts c.args.words.now in
-    let strings = texts c.in-Some.asked.strings.now in
-    let a : Request = record { budget = c.in-Some.asked.budget; strings = strings } in
-    let loads = c.in-Ok.ensures.loaded a.budget files files_are in
-    ran_decides (program_of words files) c.run_loaded.result (record { image = c.in-Ok.loaded.image; strings = strings; budget = a.budget }, sym (is_asked words files a c.in-Some.ensures.asked) ∙ loads.0)
-    (λ refusal e. subst (λ (r : Result ℕ Refusal). IfErr r IsLate) e c.run_loaded.ensures.late)
-
-pub returns-in-Err-clause-early : goal.returns-in-Err-clause-early
-returns-in-Err-clause-early g c files files_are =
-    let words = texts c.args.words.now in
-    let strings = texts c.in-Some.asked.strings.now in
-    let a : Request = record { budget = c.in-Some.asked.budget; strings = strings } in
-    let loads = subst (λ (p : Result Program Refusal). LoadGives p strings a.budget (Err c.in-Err.refusal)) (is_asked words files a c.in-Some.ensures.asked) (c.in-Err.ensures.loaded a.budget files files_are) in
-    unready_decides (program_of words files) strings a.budget c.in-Err.refusal loads
-
-pub returns-in-Ok-clause-words : goal.returns-in-Ok-clause-words
-returns-in-Ok-clause-words g c = (
-  (λ none. let both = sym none ∙ c.in-Some.ensures.asked in cc),
-  λ e. absurd (subst (λ (r : Result ℕ Refusal). IfErr r IsLate) e c.run_loaded.ensures.late),
+pub returns-in-Some-clause-words : goal.returns-in-Some-clause-words
+returns-in-Some-clause-words g c = (
+  (λ none. let both = sym (run_is_asked (texts c.args.words.now) _ c.in-Some.ensures.asked) ∙ none in cc),
+  λ e. absurd (subst (λ (r : Result ℕ Refusal). IfErr r IsBuilt) e c.run_asked.ensures.built refl),
 )
 
-pub returns-in-Err-clause-words : goal.returns-in-Err-clause-words
-returns-in-Err-clause-words g c = (
-  (λ none. let both = sym none ∙ c.in-Some.ensures.asked in cc),
-  λ e. absurd (c.in-Err.ensures.built (cc)),
+pub returns-in-Some-clause-early : goal.returns-in-Some-clause-early
+returns-in-Some-clause-early g c files files_are =
+    let words = texts c.args.words.now in
+    let a : Request = record { budget = c.in-Some.asked.budget; strings = texts c.in-Some.asked.strings.now } in
+    subst (λ (k : Result Task Refusal). IsDecided k c.run_asked.result) (is_asked words files (ToRun a) (run_is_asked words a c.in-Some.ensures.asked)) (c.run_asked.ensures.early files files_are)
+
+pub returns-in-Some-clause-told : goal.returns-in-Some-clause-told
+returns-in-Some-clause-told g c files w files_are input moments =
+    let words = texts c.args.words.now in
+    let a : Request = record { budget = c.in-Some.asked.budget; strings = texts c.in-Some.asked.strings.now } in
+    subst (λ (k : Result Task Refusal). AttemptGives (g.H.Host.told c.args.host.now) k w c.run_asked.result (g.H.Host.told c.run_asked.new.host))
+    (is_asked words files (ToRun a) (run_is_asked words a c.in-Some.ensures.asked)) (c.run_asked.ensures.told files w files_are input moments)
+
+pub returns-in-Some-asked_view-clause-words : goal.returns-in-Some-asked_view-clause-words
+returns-in-Some-asked_view-clause-words g c = (
+  (λ none. let both = sym (view_is_asked (texts c.args.words.now) _ c.in_default.ensures.asked c.in-Some-asked_view.ensures) ∙ none in cc),
+  λ e. absurd (subst (λ (r : Result ℕ Refusal). IfErr r IsBuilt) e c.view_asked.ensures.built refl),
 )
+
+pub returns-in-Some-asked_view-clause-early : goal.returns-in-Some-asked_view-clause-early
+returns-in-Some-asked_view-clause-early g c files files_are =
+    let words = texts c.args.words.now in
+    let name = c.in-Some-asked_view.name.now in
+    subst (λ (k : Result Task Refusal). IsDecided k c.view_asked.result)
+    (is_asked words files (ToView name) (view_is_asked words name c.in_default.ensures.asked c.in-Some-asked_view.ensures)) (c.view_asked.ensures.early files files_are)
+
+pub returns-in-Some-asked_view-clause-told : goal.returns-in-Some-asked_view-clause-told
+returns-in-Some-asked_view-clause-told g c files w files_are input moments =
+    let words = texts c.args.words.now in
+    let name = c.in-Some-asked_view.name.now in
+    subst (λ (k : Result Task Refusal). AttemptGives (g.H.Host.told c.args.host.now) k w c.view_asked.result (g.H.Host.told c.view_asked.new.host))
+    (is_asked words files (ToView name) (view_is_asked words name c.in_default.ensures.asked c.in-Some-asked_view.ensures)) (c.view_asked.ensures.told files w files_are input moments)
+
+pub returns-in-None-clause-words : goal.returns-in-None-clause-words
+returns-in-None-clause-words g c = ((λ none. refl), λ e. none_asked (texts c.args.words.now) c.in_default.ensures.asked c.in-None.ensures)
+
+pub returns-in-None-clause-early : goal.returns-in-None-clause-early
+returns-in-None-clause-early g c files files_are =
+    let words = texts c.args.words.now in
+    not_asked words files (none_asked words c.in_default.ensures.asked c.in-None.ensures)
+
+pub returns-in-None-clause-told : goal.returns-in-None-clause-told
+returns-in-None-clause-told g c files w files_are input moments =
+    let words = texts c.args.words.now in
+    let t = g.H.Host.told c.args.host.now in
+    attempt_none t t words files w (none_asked words c.in_default.ensures.asked c.in-None.ensures) input moments refl

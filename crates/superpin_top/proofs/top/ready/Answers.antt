@@ -2,7 +2,7 @@ use Rattle.std.proofs.Common.{arith, ◌≡◌, ◌≤◌, List, ℕ, length, ap
 use Rattle.std.proofs.lemmas.Grind.{common_steps}
 use Rattle.sp_host.specs.Told.{file_of}
 use Rattle.sp_host.specs.Whole.{most_file}
-use Rattle.superpin_top.specs.Words.{texts}
+use Rattle.superpin_top.specs.Words.{ToRun, texts}
 use Rattle.std.specs.Prelude.{Err}
 use Rattle.superpin_top.specs.Due.{name_of}
 use Rattle.superpin_top.specs.Top.{ReadGives}
@@ -26,5 +26,5 @@ pub returns-in-Err-clause-loaded : goal.returns-in-Err-clause-loaded
 returns-in-Err-clause-loaded g c budget files is =
     let strings = texts c.args.strings.now in
     let name : c.as_str.result.now ≡ name_of strings = grind (arith, common_steps, c.as_str.ensures.value, c.index-strings-0.is, c.requires) in
-    ready_unread (file_of files (name_of strings)) (record { budget = budget; strings = strings }) c.in-Err.refusal strings budget
+    ready_unread (file_of files (name_of strings)) (ToRun (record { budget = budget; strings = strings })) c.in-Err.refusal
     (subst (λ (n : List ℕ). ReadGives (file_of files n) (Err c.in-Err.refusal)) name (c.in-Err.ensures.bytes files is))

@@ -1,12 +1,11 @@
-use Rattle.std.proofs.Common.{sym, subst, ◌∙◌, List, ℕ}
+use Rattle.std.proofs.Common.{sym, subst, ◌∙◌}
 use Rattle.std.specs.Prelude.{Ok, Err}
 use Rattle.superpin_top.specs.declared.answer.Refusal.{Refusal}
 use Rattle.superpin_top.specs.Causes.{CausedBy}
-use Rattle.superpin_top.specs.Due.{Program, run_of_program}
+use Rattle.superpin_top.specs.Due.{Program, Runs, run_of_program}
 use Rattle.superpin_top.specs.Outcome.{Refuses}
 use Rattle.superpin_top.specs.Run.{RunGives}
 use Rattle.superpin_top.specs.Start.{Run}
-use Rattle.superpin_top.specs.Top.{IsLate}
 use Rattle.superpin_top.proofs.Outcomes.{begun, finishes, no_room, not_reported, reported, run_refuses}
 use Rattle.superpin_top.proofs.top.run_loaded.Goals as goal
 
@@ -15,7 +14,7 @@ returns-in-Err-clause-told g c t w strings is begins =
     let p : Program = record { image = c.args.loaded.image; strings = strings; budget = c.args.budget } in
     let new = g.H.Host.told c.execute.new.host in
     let gives = subst (λ (r : Run). RunGives t r (Err c.in-Err.fault) new) (begun c.args.loaded.image strings c.args.budget c.args.loaded.guest.machine w begins) (c.in-Err.ensures.told t w is) in
-    subst (λ (refusal : Refusal). Refuses t (Ok p) w refusal new) (sym c.from.ensures) (run_refuses t new p w c.in-Err.fault gives)
+    subst (λ (refusal : Refusal). Refuses t (Ok (Runs p)) w refusal new) (sym c.from.ensures) (run_refuses t new p w c.in-Err.fault gives)
 
 pub returns-in-Err-clause-faults : goal.returns-in-Err-clause-faults
 returns-in-Err-clause-faults g c =

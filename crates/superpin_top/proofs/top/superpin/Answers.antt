@@ -1,34 +1,33 @@
-use Rattle.std.proofs.Common.{◌<◌, sym, ap, ◌∙◌, arith}
+use Rattle.std.proofs.Common.{ap, arith}
 use Rattle.sp_host.specs.Faults.{File, Input}
 use Rattle.superpin_top.specs.Words.{texts}
-use Rattle.superpin_top.specs.Due.{program_of}
+use Rattle.superpin_top.specs.Due.{task_of}
 use Rattle.superpin_top.specs.declared.answer.Answer.TheVariants.{Refused}
 use Rattle.superpin_top.specs.declared.answer.Refusal.{Refusal}
-use Rattle.superpin_top.specs.declared.answer.Refusal.TheVariants as refusals
 use Rattle.superpin_top.proofs.Causes.{refused_where, port_where, report_rose, guests_port}
-use Rattle.superpin_top.proofs.Headline.{early_ended, early_of, refused_follows}
+use Rattle.superpin_top.proofs.Headline.{early_of, refused_follows}
 use Rattle.superpin_top.proofs.top.superpin.Goals as goal
 
 pub returns-in-Err-clause-headline : goal.returns-in-Err-clause-headline
 returns-in-Err-clause-headline g c files w files_are input moments =
-    (refused_follows _ (program_of (texts c.args.words.now) files) w c.in-Err.refusal _ _ _ _ _ (c.in-Err.ensures.told files w files_are input moments) c.in-Err.ensures.faults c.refuse.ensures).headline
+    (refused_follows _ (task_of (texts c.args.words.now) files) w c.in-Err.refusal _ _ _ _ _ (c.in-Err.ensures.told files w files_are input moments) c.in-Err.ensures.faults c.refuse.ensures).headline
 
 pub returns-in-Err-clause-causes : goal.returns-in-Err-clause-causes
 returns-in-Err-clause-causes g c files w files_are input moments =
-    (refused_follows _ (program_of (texts c.args.words.now) files) w c.in-Err.refusal _ _ _ _ _ (c.in-Err.ensures.told files w files_are input moments) c.in-Err.ensures.faults c.refuse.ensures).causes
+    (refused_follows _ (task_of (texts c.args.words.now) files) w c.in-Err.refusal _ _ _ _ _ (c.in-Err.ensures.told files w files_are input moments) c.in-Err.ensures.faults c.refuse.ensures).causes
 
 pub returns-in-Err-clause-front : goal.returns-in-Err-clause-front
 returns-in-Err-clause-front g c files w files_are input moments =
-    (refused_follows _ (program_of (texts c.args.words.now) files) w c.in-Err.refusal _ _ _ _ _ (c.in-Err.ensures.told files w files_are input moments) c.in-Err.ensures.faults c.refuse.ensures).fronts.out
+    (refused_follows _ (task_of (texts c.args.words.now) files) w c.in-Err.refusal _ _ _ _ _ (c.in-Err.ensures.told files w files_are input moments) c.in-Err.ensures.faults c.refuse.ensures).fronts.out
 
 pub returns-in-Err-clause-error_front : goal.returns-in-Err-clause-error_front
 returns-in-Err-clause-error_front g c files w files_are input moments =
-    (refused_follows _ (program_of (texts c.args.words.now) files) w c.in-Err.refusal _ _ _ _ _ (c.in-Err.ensures.told files w files_are input moments) c.in-Err.ensures.faults c.refuse.ensures).fronts.err
+    (refused_follows _ (task_of (texts c.args.words.now) files) w c.in-Err.refusal _ _ _ _ _ (c.in-Err.ensures.told files w files_are input moments) c.in-Err.ensures.faults c.refuse.ensures).fronts.err
 
 pub returns-in-Err-clause-early : goal.returns-in-Err-clause-early
 returns-in-Err-clause-early g c files files_are below same found =
     let where_file = refused_where File c.in-Err.refusal _ _ _ _ _ c.in-Err.ensures.faults c.refuse.ensures (λ e. cc) below in
-    early_of (program_of (texts c.args.words.now) files) c.in-Err.refusal (c.in-Err.ensures.early files files_are)
+    early_of (task_of (texts c.args.words.now) files) c.in-Err.refusal (c.in-Err.ensures.early files files_are)
     (λ e. let rose = where_file.0 (ap (λ (r : Refusal). Refused r) e) in omega (arith, rose, same))
     (λ e. found (ap (λ (r : Refusal). Refused r) e))
 

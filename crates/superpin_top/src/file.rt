@@ -1,0 +1,54 @@
+// The file that is asked for.
+ghost use Rattle.std.specs.Prelude.{◌≡◌, None, IfErr, MatchResult};
+ghost use Rattle.sp_host.specs.Told.{WhereTold, file_of};
+ghost use Rattle.superpin_top.specs.Causes.{CausedBy, cause_of, refusal_of_read};
+ghost use Rattle.superpin_top.specs.Top.{ImageGives, IsBuilt, ReadGives};
+
+use crate::answer::Refusal;
+use elf_load::{ElfFault, Image, load};
+use sp_host::{Host, ReadFault, read_whole};
+use std::alloc::Global;
+
+impl From<ReadFault> for Refusal {
+    ghost from_gives = { λ fault refusal. refusal ≡ refusal_of_read fault };
+
+    fn from(fault: ReadFault) -> Self {
+        match fault {
+            ReadFault::FileFault => Refusal::FileFault,
+            ReadFault::FileTooLarge => Refusal::FileTooLarge,
+            ReadFault::NoMemory => Refusal::NoMemory,
+        }
+    }
+}
+
+/// The bytes of a file, if they are few enough.
+pub(crate) fn read_program<H: Host>(
+    alloc: Global,
+    host: &mut H,
+    name: &str,
+) -> Result<Vec<u8>, Refusal>
+    ensures told { H.told host.new ≡ H.told host.old }
+    ensures bytes { WhereTold (H.told host.old).files
+        (λ files. ReadGives (file_of files name.now) result) }
+    ensures faults { MatchResult result (λ _. H.faults host.new ≡ H.faults host.old)
+        (λ e. CausedBy e (H.faults host.old) (H.faults host.new)) }
+    ensures built { IfErr result IsBuilt }
+{
+    match read_whole(alloc, host, name) {
+        Ok(file) => Ok(file),
+        Err(fault) => Err(Refusal::from(fault)),
+    }
+}
+
+/// The image of a file.
+pub(crate) fn load_image(alloc: Global, file: &[u8]) -> Result<Image, Refusal>
+    ensures image { ImageGives file.now result }
+    ensures cause { IfErr result (λ e. cause_of e ≡ None) }
+    ensures built { IfErr result IsBuilt }
+{
+    match load(alloc, file) {
+        Ok(image) => Ok(image),
+        Err(ElfFault::NoMemory) => Err(Refusal::NoMemory),
+        Err(fault) => Err(Refusal::Elf(fault)),
+    }
+}
