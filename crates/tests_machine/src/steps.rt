@@ -354,6 +354,84 @@ fn stores_across_pages(rt: HostRuntime) -> Result<(), Fail> {
     Ok(())
 }
 
+// sw x5, 0(x2); addi x6, x2, -2048; sw x5, -2048(x6); jal x0, 4; ecall: stores into two pages
+const TWO_STORES: [u32; 5] = [0x00512023, 0x80010313, 0x80532023, 0x0040006f, 0x00000073];
+
+// Limits of steps and of pages, and how many steps complete, what the last one answers, and pc then.
+struct Stretch {
+    steps: u64,
+    pages: u32,
+    completed: u64,
+    last: Stepped,
+    pc: u32,
+}
+
+// The stack pointer is 0x7fffefa0: the first store is in the page at 0x7fffe000, the second in the
+// one before it.
+const STRETCHES: [Stretch; 6] = [
+    Stretch {
+        steps: 0,
+        pages: 9,
+        completed: 0,
+        last: NEXT,
+        pc: 0x10054,
+    },
+    Stretch {
+        steps: 2,
+        pages: 9,
+        completed: 2,
+        last: NEXT,
+        pc: 0x1005c,
+    },
+    Stretch {
+        steps: 100,
+        pages: 9,
+        completed: 4,
+        last: Stepped::Call,
+        pc: 0x10064,
+    },
+    Stretch {
+        steps: 100,
+        pages: 0,
+        completed: 1,
+        last: NEXT,
+        pc: 0x10058,
+    },
+    Stretch {
+        steps: 100,
+        pages: 1,
+        completed: 3,
+        last: NEXT,
+        pc: 0x10060,
+    },
+    Stretch {
+        steps: 4,
+        pages: 2,
+        completed: 4,
+        last: NEXT,
+        pc: 0x10064,
+    },
+];
+
+fn runs(alloc: Global, row: &Stretch) -> Result<bool, AllocError> {
+    let file = one_segment(alloc, &TWO_STORES)?;
+    let Some(mut guest) = guest_of(alloc, &file, &[]) else {
+        return Ok(false);
+    };
+    let ran = guest.run(row.steps, row.pages);
+    let stands = guest.pc() == row.pc
+        && guest.fresh() == (row.completed == 0 || row.completed == 4);
+    Ok(ran.completed == row.completed && ran.last == row.last && stands)
+}
+
+#[test]
+fn runs_up_to_a_limit(rt: HostRuntime) -> Result<(), Fail> {
+    for (k, row) in STRETCHES.iter().enumerate() {
+        assert!(rt; runs(rt.alloc(), row)?, "stretch {k}");
+    }
+    Ok(())
+}
+
 // addi x17, x0, 63; lui x11, 0x7fe00; lui x12, 3; ecall: a read into three pages of the stack
 const READS_THREE_PAGES: [u32; 4] = [0x03f00893, 0x7fe005b7, 0x00003637, 0x00000073];
 
@@ -370,7 +448,9 @@ fn step_with_two(guest: &mut Guest) -> Option<Stepped> {
 fn two_frames_suffice_at_a_call(rt: HostRuntime) -> Result<(), Fail> {
     let file = one_segment(rt.alloc(), &READS_THREE_PAGES)?;
     let image = load(rt.alloc(), &file).ok().ok_or("no image")?;
-    let mut guest = Guest::load(rt.alloc(), &image, &[], 2).ok().ok_or("no guest")?;
+    let mut guest = Guest::load(rt.alloc(), &image, &[], 2)
+        .ok()
+        .ok_or("no guest")?;
     for _i in 0..3 {
         assert!(rt; step_with_two(&mut guest) == Some(NEXT));
     }
