@@ -187,7 +187,8 @@ impl Space {
         self.next_map
     }
 
-    /// How many pages were written since the space was made, also those that are mapped no longer.
+    /// How many pages were written since the last freeze, or since the space was made or forked, also those
+    /// that are mapped no longer.
     pub fn written(&self) -> u32
         ensures written { result ≡ count_marked self.now.frames.written }
         ensures enough { self.now.frames.count ≤ self.now.frames.free + result }
