@@ -1,3 +1,5 @@
 pub mod Digits
 pub mod View
 pub mod Instruction
+pub mod Answer
+pub mod Lines

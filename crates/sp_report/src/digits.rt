@@ -12,9 +12,9 @@ pub(crate) fn hex_digit(d: u32) -> u8
     if d < 10 { 48 + d as u8 } else { 87 + d as u8 }
 }
 
-// The eight digits of a number.
+/// The eight digits of a number.
 #[tactic(auto, unfolding(crate::specs::Digits::eight_digits))]
-fn eight_digits(n: u32) -> [u8; 8]
+pub(crate) fn eight_digits(n: u32) -> [u8; 8]
     ensures { result ≡ eight_digits n }
 {
     [

@@ -1,9 +1,13 @@
-//! The texts that are printed.
+//! The texts that are printed, and what a command answers.
 #![tactic(auto)]
 
+mod answer;
 mod digits;
 mod instruction;
+mod lines;
 mod view;
 
+pub use answer::{Answer, Cuts, Refusal, exit_code};
 pub use digits::push_address;
+pub use lines::{end_line, refusal_line};
 pub use view::{push_name, view_text};

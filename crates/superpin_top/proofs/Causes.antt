@@ -7,11 +7,11 @@ use Rattle.sp_host.specs.Count.{one_more}
 use Rattle.sp_host.specs.Faults.{Source, File, Input, To, Faults, Faulted, Caused, count_of, with_count}
 use Rattle.sp_host.specs.declared.host.Port.{Port}
 use Rattle.sp_host.specs.declared.host.Port.TheVariants.{Out, Err, Report}
+use Rattle.sp_report.specs.declared.answer.Answer.TheVariants.{Refused}
+use Rattle.sp_report.specs.declared.answer.Refusal.{Refusal}
+use Rattle.sp_report.specs.declared.answer.Refusal.TheVariants as refusals
 use Rattle.superpin_top.specs.Causes.{cause_of, IsOfGuest, CausedBy}
 use Rattle.superpin_top.specs.Outcome.{WritesLine}
-use Rattle.superpin_top.specs.declared.answer.Answer.TheVariants.{Refused}
-use Rattle.superpin_top.specs.declared.answer.Refusal.{Refusal}
-use Rattle.superpin_top.specs.declared.answer.Refusal.TheVariants as refusals
 
 -- a refusal without a cause, where no count rose
 pub calm : (refusal : Refusal) (f : Faults) → cause_of refusal ≡ None → CausedBy refusal f f

@@ -10,16 +10,16 @@ use Rattle.sp_host.proofs.Told.{appended-nil}
 use Rattle.guest_model.specs.Call.{World, Sent}
 use Rattle.guest_model.specs.Runs.{RunState, Running, Ended as RunEnded}
 use Rattle.guest_model.specs.Serial.{Position, End, Exit, Signal, Unsupported, TraceItem, run_of, sent_of, trace_of}
-use Rattle.superpin_top.specs.Report.{refusal_line}
+use Rattle.sp_report.specs.Lines.{refusal_line}
+use Rattle.sp_report.specs.View.{view_text}
+use Rattle.sp_report.specs.declared.answer.Answer.{Answer}
+use Rattle.sp_report.specs.declared.answer.Answer.TheVariants.{Ended, Refused}
+use Rattle.sp_report.specs.declared.answer.Refusal.{Refusal}
+use Rattle.sp_report.specs.declared.answer.Refusal.TheVariants as refusals
 use Rattle.superpin_top.specs.Causes.{CausedBy, is_early, is_of_run}
 use Rattle.superpin_top.specs.Start.{Run}
-use Rattle.sp_report.specs.View.{view_text}
 use Rattle.superpin_top.specs.Due.{Due, Program, Task, Runs, Shows, due_ended, due_run, due_shown, due_state, due_task, run_of_program, delivered}
 use Rattle.superpin_top.specs.Outcome.{IsAccepted, IsDecided, IsDue, IsEarly, Refuses, WritesLine, Outcome, IsRefused, CanRise, NoneRose, IsDelivered, IsCaused, AddsFront}
-use Rattle.superpin_top.specs.declared.answer.Answer.{Answer}
-use Rattle.superpin_top.specs.declared.answer.Answer.TheVariants.{Ended, Refused}
-use Rattle.superpin_top.specs.declared.answer.Refusal.{Refusal}
-use Rattle.superpin_top.specs.declared.answer.Refusal.TheVariants as refusals
 use Rattle.superpin_top.proofs.Causes.{count_after, rose_by, line_kept, line_report}
 use Rattle.superpin_top.proofs.Outcomes.{delivered_report}
 use Rattle.superpin_top.proofs.Fronts.{AddsFronts, input_fronts, output_fronts, memory_fronts}

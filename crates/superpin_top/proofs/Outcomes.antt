@@ -16,16 +16,17 @@ use Rattle.rv_machine.specs.declared.step.End.TheVariants as ends
 use Rattle.syscall_layer.specs.Serve.{told_after}
 use Rattle.syscall_layer.specs.declared.fault.RunFault.{RunFault}
 use Rattle.syscall_layer.specs.declared.fault.RunFault.TheVariants as faults
+use Rattle.sp_report.specs.Lines.{end_by}
+use Rattle.sp_report.specs.View.{view_text}
+use Rattle.sp_report.specs.declared.answer.Answer.TheVariants.{Ended, Refused}
+use Rattle.sp_report.specs.declared.answer.Refusal.{Refusal}
+use Rattle.sp_report.specs.declared.answer.Refusal.TheVariants as refusals
 use Rattle.superpin_top.specs.Causes.{refusal_of_run}
-use Rattle.superpin_top.specs.Run.{end_by, RunGives}
+use Rattle.superpin_top.specs.Run.{RunGives}
 use Rattle.superpin_top.specs.Start.{Run, start_of}
 use Rattle.superpin_top.specs.Report.{count_of, report_of}
-use Rattle.sp_report.specs.View.{view_text}
 use Rattle.superpin_top.specs.Due.{Due, Program, Task, Runs, due_refused, due_run, due_shown, due_state, run_of_program, delivered}
 use Rattle.superpin_top.specs.Outcome.{IsDue, OfText, Refuses, AttemptGives}
-use Rattle.superpin_top.specs.declared.answer.Answer.TheVariants.{Ended, Refused}
-use Rattle.superpin_top.specs.declared.answer.Refusal.{Refusal}
-use Rattle.superpin_top.specs.declared.answer.Refusal.TheVariants as refusals
 use Rattle.superpin_top.specs.declared.run.Finish.{Finish}
 
 -- where the input and the moments are told, a run begins here

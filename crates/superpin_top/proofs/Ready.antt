@@ -14,13 +14,13 @@ use Rattle.guest_model.specs.Call.{World}
 use Rattle.guest_model.specs.declared.platform.TheConstants.{MOST_STRINGS}
 use Rattle.guest_mem.specs.Memory.{free_frames}
 use Rattle.rv_machine.specs.Load.{strings_size}
+use Rattle.sp_report.specs.declared.answer.Refusal.{Refusal}
+use Rattle.sp_report.specs.declared.answer.Refusal.TheVariants as refusals
 use Rattle.superpin_top.specs.Causes.{refusal_of_read}
 use Rattle.superpin_top.specs.Words.{Asked, ToRun, ToView, Request, asked, asked_run, asked_view, asked_with_view}
 use Rattle.superpin_top.specs.Due.{Task, Runs, Shows, task_in, task_of, task_of_asked, task_of_file, task_of_tested}
 use Rattle.superpin_top.specs.Outcome.{IsAccepted, IsDecided, Refuses}
 use Rattle.superpin_top.specs.Top.{ImageGives, IsBefore, IsLate, LoadGives, ReadGives, TextGives}
-use Rattle.superpin_top.specs.declared.answer.Refusal.{Refusal}
-use Rattle.superpin_top.specs.declared.answer.Refusal.TheVariants as refusals
 use Rattle.superpin_top.specs.declared.top.Loaded.{Loaded}
 use Rattle.superpin_top.proofs.Outcomes.{refused_before}
 

@@ -19,8 +19,9 @@ use Rattle.rv_machine.specs.declared.step.End.{End as GuestEnd}
 use Rattle.syscall_layer.specs.Serve.{told_after}
 use Rattle.syscall_layer.specs.declared.fault.RunFault.{RunFault}
 use Rattle.syscall_layer.specs.declared.fault.RunFault.TheVariants as faults
+use Rattle.sp_report.specs.Lines.{end_by}
 use Rattle.superpin_top.specs.Report.{count_of, is_in_code}
-use Rattle.superpin_top.specs.Run.{end_by, IsAt, world_of, StepGives, RunGives}
+use Rattle.superpin_top.specs.Run.{IsAt, world_of, StepGives, RunGives}
 use Rattle.superpin_top.specs.Start.{Run, start_of}
 use Rattle.superpin_top.specs.declared.run.Turn.TheVariants as turns
 use Rattle.superpin_top.proofs.Steps.{step_with}

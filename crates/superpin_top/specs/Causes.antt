@@ -6,8 +6,8 @@ use Rattle.sp_host.specs.declared.whole.ReadFault.{ReadFault}
 use Rattle.sp_host.specs.declared.whole.ReadFault.TheVariants as reads
 use Rattle.syscall_layer.specs.declared.fault.RunFault.{RunFault}
 use Rattle.syscall_layer.specs.declared.fault.RunFault.TheVariants as runs
-use Rattle.superpin_top.specs.declared.answer.Refusal.{Refusal}
-use Rattle.superpin_top.specs.declared.answer.Refusal.TheVariants as refusals
+use Rattle.sp_report.specs.declared.answer.Refusal.{Refusal}
+use Rattle.sp_report.specs.declared.answer.Refusal.TheVariants as refusals
 
 -- the refusal of a fault
 abbrev pub refusal_of_read : ReadFault → Refusal

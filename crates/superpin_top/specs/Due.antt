@@ -11,13 +11,14 @@ use Rattle.guest_model.specs.Serial.{Position, End, Exit, Signal, Unsupported, T
 use Rattle.guest_model.specs.declared.platform.TheConstants.{MOST_STRINGS}
 use Rattle.rv_machine.specs.Load.{machine_of, strings_size}
 use Rattle.sp_report.specs.View.{view_text}
+use Rattle.sp_report.specs.Lines.{refusal_line}
+use Rattle.sp_report.specs.declared.answer.Answer.{Answer}
+use Rattle.sp_report.specs.declared.answer.Answer.TheVariants.{Ended, Refused}
+use Rattle.sp_report.specs.declared.answer.Refusal.{Refusal}
+use Rattle.sp_report.specs.declared.answer.Refusal.TheVariants as refusals
 use Rattle.superpin_top.specs.Words.{Asked, ToRun, ToView, asked}
-use Rattle.superpin_top.specs.Report.{count_of, report_of, refusal_line}
+use Rattle.superpin_top.specs.Report.{count_of, report_of}
 use Rattle.superpin_top.specs.Start.{Run, start_of}
-use Rattle.superpin_top.specs.declared.answer.Answer.{Answer}
-use Rattle.superpin_top.specs.declared.answer.Answer.TheVariants.{Ended, Refused}
-use Rattle.superpin_top.specs.declared.answer.Refusal.{Refusal}
-use Rattle.superpin_top.specs.declared.answer.Refusal.TheVariants as refusals
 
 pub record Due : Type 0 where
   pub answer : Answer

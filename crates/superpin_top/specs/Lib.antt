@@ -1,4 +1,3 @@
-pub mod Answer
 pub mod Words
 pub mod Accepted
 pub mod Report

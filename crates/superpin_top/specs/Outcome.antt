@@ -7,16 +7,16 @@ use Rattle.elf_load.specs.Image.{ImageFields}
 use Rattle.guest_model.specs.Call.{World}
 use Rattle.guest_model.specs.Serial.{sent_at}
 use Rattle.syscall_layer.specs.Serve.{PartWritten}
+use Rattle.sp_report.specs.Lines.{refusal_line}
+use Rattle.sp_report.specs.View.{view_text}
+use Rattle.sp_report.specs.declared.answer.Answer.{Answer}
+use Rattle.sp_report.specs.declared.answer.Answer.TheVariants.{Ended, Refused}
+use Rattle.sp_report.specs.declared.answer.Refusal.{Refusal}
+use Rattle.sp_report.specs.declared.answer.Refusal.TheVariants as refusals
 use Rattle.superpin_top.specs.Run.{LacksMemory, StopsInput, StepBefore}
 use Rattle.superpin_top.specs.Start.{Run}
-use Rattle.superpin_top.specs.Report.{refusal_line}
-use Rattle.sp_report.specs.View.{view_text}
 use Rattle.superpin_top.specs.Due.{Due, Program, Task, Runs, Shows, delivered, due_run, due_task, run_of_program}
 use Rattle.superpin_top.specs.Causes.{CausedBy, is_early, is_of_run}
-use Rattle.superpin_top.specs.declared.answer.Answer.{Answer}
-use Rattle.superpin_top.specs.declared.answer.Answer.TheVariants.{Ended, Refused}
-use Rattle.superpin_top.specs.declared.answer.Refusal.{Refusal}
-use Rattle.superpin_top.specs.declared.answer.Refusal.TheVariants as refusals
 
 -- holds of the files and of the input and moments left, where they are told
 abbrev pub WhereAllTold : Told → (Files → World → Type 0) → Type 0

@@ -1,16 +1,10 @@
--- The report of a run, and the lines of refusals.
-use Rattle.std.specs.Prelude.{ℕ, ◌+◌, ◌&&◌, Bool, List, [], ◌++◌, nat_le, codes, count_by}
+-- The report of a run.
+use Rattle.std.specs.Prelude.{ℕ, ◌+◌, ◌&&◌, Bool, List, ◌++◌, nat_le, codes, count_by}
 use Rattle.std.specs.Fmt.{decimal}
 use Rattle.std.specs.List.{list_any}
-use Rattle.sp_host.specs.declared.host.Port.{Port}
-use Rattle.sp_host.specs.declared.host.Port.TheVariants.{Out, Err, Report}
 use Rattle.elf_load.specs.Image.{ImageFields, SegmentFields, is_executable}
-use Rattle.elf_load.specs.declared.fault.ElfFault.{ElfFault}
-use Rattle.elf_load.specs.declared.fault.ElfFault.TheVariants as elf
-use Rattle.guest_model.specs.Serial.{End, Exit, Signal, Unsupported, TraceItem}
-use Rattle.sp_report.specs.Digits.{address_text}
-use Rattle.superpin_top.specs.declared.answer.Refusal.{Refusal}
-use Rattle.superpin_top.specs.declared.answer.Refusal.TheVariants as refusals
+use Rattle.guest_model.specs.Serial.{End, TraceItem}
+use Rattle.sp_report.specs.Lines.{end_text}
 
 -- whether the four bytes from an address on lie in one segment of code
 abbrev pub has_word : ℕ → SegmentFields → Bool
@@ -28,51 +22,5 @@ count_of image items = count_by (λ item. is_in_code image.segments item.before.
 abbrev pub count_text : ℕ → List ℕ → List ℕ
 count_text count rest = codes "icount " ++ (decimal count ++ (codes "\n" ++ rest))
 
--- the end line; a run that ends at a call without a row has none
-abbrev pub end_text : End → List ℕ
-end_text (Exit status) = codes "end exit " ++ (decimal status ++ codes "\n")
-end_text (Signal kind pc) = codes "end signal " ++ (decimal kind ++ (codes " at " ++ (address_text pc ++ codes "\n")))
-end_text (Unsupported number pc) = []
-
 abbrev pub report_of : ℕ → End → List ℕ
 report_of count end = count_text count (end_text end)
-
-abbrev pub port_name : Port → List ℕ
-port_name Out = codes "Out"
-port_name Err = codes "Err"
-port_name Report = codes "Report"
-
--- the number and the name of a file's fault, and what it tells
-abbrev pub elf_text : ElfFault → List ℕ
-elf_text elf.TooShort = codes "1 TooShort"
-elf_text elf.NotElf = codes "2 NotElf"
-elf_text elf.NotElf32Little = codes "3 NotElf32Little"
-elf_text elf.NotExec = codes "4 NotExec"
-elf_text elf.NotRiscv = codes "5 NotRiscv"
-elf_text (elf.Flags value) = codes "6 Flags " ++ address_text value
-elf_text elf.HeaderSizes = codes "7 HeaderSizes"
-elf_text elf.TableOutOfFile = codes "8 TableOutOfFile"
-elf_text elf.Interpreter = codes "9 Interpreter"
-elf_text (elf.SegmentOutOfFile k) = codes "10 SegmentOutOfFile " ++ decimal k
-elf_text (elf.BadSegment k) = codes "11 BadSegment " ++ decimal k
-elf_text (elf.SharedPage k) = codes "12 SharedPage " ++ decimal k
-elf_text (elf.WritableCode k) = codes "13 WritableCode " ++ decimal k
-elf_text (elf.OutsideUser k) = codes "14 OutsideUser " ++ decimal k
-elf_text elf.TooManyPages = codes "15 TooManyPages"
-elf_text elf.BadEntry = codes "16 BadEntry"
-elf_text elf.BadSymbols = codes "17 BadSymbols"
-elf_text elf.NoMemory = codes "18 NoMemory"
-
--- the line of a refusal
-abbrev pub refusal_line : Refusal → List ℕ
-refusal_line refusals.FileFault = codes "superpin: 2 file fault\n"
-refusal_line refusals.FileTooLarge = codes "superpin: 3 file too large\n"
-refusal_line (refusals.Elf fault) = codes "superpin: 4 elf " ++ (elf_text fault ++ codes "\n")
-refusal_line (refusals.ArgsTooLong bytes) = codes "superpin: 5 arguments " ++ (decimal bytes ++ codes "\n")
-refusal_line (refusals.UnsupportedCall number pc) = codes "superpin: 6 unsupported call " ++ (decimal number ++ (codes " at " ++ (address_text pc ++ codes "\n")))
-refusal_line (refusals.BudgetSpent n) = codes "superpin: 7 budget " ++ (decimal n ++ codes " spent\n")
-refusal_line refusals.InputFault = codes "superpin: 8 input fault\n"
-refusal_line (refusals.OutputFault port) = codes "superpin: 9 output fault " ++ (port_name port ++ codes "\n")
-refusal_line refusals.ReportFault = []
-refusal_line refusals.NoMemory = codes "superpin: 11 no memory\n"
-refusal_line refusals.NotBuilt = codes "superpin: 90 not built\n"

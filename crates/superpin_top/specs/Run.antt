@@ -6,10 +6,8 @@ use Rattle.guest_model.specs.Calls.{Deed, deed_of}
 use Rattle.guest_model.specs.Effect.{Call, effect_of}
 use Rattle.guest_model.specs.Machine.{Machine}
 use Rattle.guest_model.specs.Runs.{RunState, Running, Ended}
-use Rattle.guest_model.specs.Serial.{Position, End, Exit, Signal, Unsupported, step_of, sent_at, run_of, sent_of, trace_of}
-use Rattle.rv_machine.specs.Step.{kind_number}
-use Rattle.rv_machine.specs.declared.step.End.{End as GuestEnd}
-use Rattle.rv_machine.specs.declared.step.End.TheVariants as ends
+use Rattle.guest_model.specs.Serial.{Position, End, Unsupported, step_of, sent_at, run_of, sent_of, trace_of}
+use Rattle.sp_report.specs.Lines.{end_by}
 use Rattle.syscall_layer.specs.Serve.{TakesMemory, InputPart, PartWritten, told_after}
 use Rattle.syscall_layer.specs.declared.fault.RunFault.{RunFault}
 use Rattle.syscall_layer.specs.declared.fault.RunFault.TheVariants as faults
@@ -18,10 +16,6 @@ use Rattle.superpin_top.specs.Start.{Run}
 use Rattle.superpin_top.specs.declared.run.Turn.{Turn}
 use Rattle.superpin_top.specs.declared.run.Turn.TheVariants as turns
 use Rattle.superpin_top.specs.declared.run.Finish.{Finish}
-
-abbrev pub end_by : GuestEnd → End
-end_by (ends.Exit status) = Exit status
-end_by (ends.Signal kind pc) = Signal (kind_number kind) pc
 
 -- the run goes on with this machine
 abbrev pub IsAt : RunState Position End → Machine → Type 0

@@ -5,10 +5,10 @@ use Rattle.sp_host.specs.Whole.{most_file}
 use Rattle.elf_load.specs.Elf.{refusal_of, image_of}
 use Rattle.elf_load.specs.Image.{ImageFields}
 use Rattle.rv_machine.specs.Load.{machine_of}
+use Rattle.sp_report.specs.declared.answer.Refusal.{Refusal}
+use Rattle.sp_report.specs.declared.answer.Refusal.TheVariants as refusals
 use Rattle.superpin_top.specs.Due.{Task, Runs}
 use Rattle.superpin_top.specs.Outcome.{OfText}
-use Rattle.superpin_top.specs.declared.answer.Refusal.{Refusal}
-use Rattle.superpin_top.specs.declared.answer.Refusal.TheVariants as refusals
 use Rattle.superpin_top.specs.declared.top.Loaded.{Loaded}
 
 -- the bytes of a file, or that they are too many

@@ -4,20 +4,19 @@ ghost use Rattle.sp_host.specs.Told.{WhereTold, file_of};
 ghost use Rattle.superpin_top.specs.Causes.{CausedBy, cause_of, refusal_of_read};
 ghost use Rattle.superpin_top.specs.Top.{ImageGives, IsBuilt, ReadGives};
 
-use crate::answer::Refusal;
 use elf_load::{ElfFault, Image, load};
 use sp_host::{Host, ReadFault, read_whole};
+use sp_report::Refusal;
 use std::alloc::Global;
 
-impl From<ReadFault> for Refusal {
-    ghost from_gives = { λ fault refusal. refusal ≡ refusal_of_read fault };
-
-    fn from(fault: ReadFault) -> Self {
-        match fault {
-            ReadFault::FileFault => Refusal::FileFault,
-            ReadFault::FileTooLarge => Refusal::FileTooLarge,
-            ReadFault::NoMemory => Refusal::NoMemory,
-        }
+// The refusal of a fault of the file.
+fn refusal_of_read(fault: ReadFault) -> Refusal
+    ensures { result ≡ refusal_of_read fault }
+{
+    match fault {
+        ReadFault::FileFault => Refusal::FileFault,
+        ReadFault::FileTooLarge => Refusal::FileTooLarge,
+        ReadFault::NoMemory => Refusal::NoMemory,
     }
 }
 
@@ -36,7 +35,7 @@ pub(crate) fn read_program<H: Host>(
 {
     match read_whole(alloc, host, name) {
         Ok(file) => Ok(file),
-        Err(fault) => Err(Refusal::from(fault)),
+        Err(fault) => Err(refusal_of_read(fault)),
     }
 }
 

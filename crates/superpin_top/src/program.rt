@@ -1,14 +1,14 @@
 // What the program does between the system and the top call.
 ghost use Rattle.std.specs.Prelude.{◌≡◌, IfOk, IfErr};
-ghost use Rattle.superpin_top.specs.Answer.{exit_code_of};
+ghost use Rattle.sp_report.specs.Answer.{exit_code_of};
+ghost use Rattle.sp_report.specs.declared.answer.Answer.{Answer};
 ghost use Rattle.superpin_top.specs.Due.{task_of};
 ghost use Rattle.superpin_top.specs.Outcome.{Outcome, WhereAllTold, WritesLine};
 ghost use Rattle.superpin_top.specs.Words.{texts};
-ghost use Rattle.superpin_top.specs.declared.answer.Answer.{Answer};
 
-use crate::answer::{Answer, Refusal, exit_code};
 use crate::top::{refuse, superpin};
 use sp_host::{Host, ListPacer, Pacer, StdHost};
+use sp_report::{Answer, Refusal, exit_code};
 use std::alloc::Global;
 use std::env;
 use std::io::ErrorKind;

@@ -17,9 +17,8 @@ ghost use Rattle.superpin_top.specs.Words.{ToRun, asked, texts};
 ghost use Rattle.superpin_top.specs.Top.{IsBuilt, IsLate, LoadGives};
 ghost use Rattle.rv_machine.specs.Load.{machine_of};
 
-use crate::answer::{Answer, Cuts, Refusal};
 use crate::file::{load_image, read_program};
-use crate::report::{refusal_line, report};
+use crate::report::report;
 use crate::run::execute;
 use crate::view::view_asked;
 use crate::words::{asked_run, asked_view};
@@ -27,20 +26,20 @@ use elf_load::Image;
 use guest_model::platform::MOST_PAGES;
 use rv_machine::{Guest, LoadFault};
 use sp_host::{Host, Pacer, Port, write_whole};
+use sp_report::{Answer, Cuts, Refusal, refusal_line};
 use std::alloc::Global;
 use syscall_layer::RunFault;
 
-impl From<RunFault> for Refusal {
-    ghost from_gives = { λ fault refusal. refusal ≡ refusal_of_run fault };
-
-    fn from(fault: RunFault) -> Self {
-        match fault {
-            RunFault::Unsupported { number, pc } => Refusal::UnsupportedCall { number, pc },
-            RunFault::BudgetSpent { n } => Refusal::BudgetSpent { n },
-            RunFault::InputFault => Refusal::InputFault,
-            RunFault::OutputFault { port } => Refusal::OutputFault { port },
-            RunFault::NoMemory => Refusal::NoMemory,
-        }
+// The refusal of a fault of the run.
+fn refusal_of_run(fault: RunFault) -> Refusal
+    ensures { result ≡ refusal_of_run fault }
+{
+    match fault {
+        RunFault::Unsupported { number, pc } => Refusal::UnsupportedCall { number, pc },
+        RunFault::BudgetSpent { n } => Refusal::BudgetSpent { n },
+        RunFault::InputFault => Refusal::InputFault,
+        RunFault::OutputFault { port } => Refusal::OutputFault { port },
+        RunFault::NoMemory => Refusal::NoMemory,
     }
 }
 
@@ -112,12 +111,12 @@ fn run_loaded<H: Host>(
     let Loaded { image, mut guest } = loaded;
     let finish = match execute(alloc, host, &image, &mut guest, budget) {
         Ok(finish) => finish,
-        Err(fault) => return Err(Refusal::from(fault)),
+        Err(fault) => return Err(refusal_of_run(fault)),
     };
     let Ok(text) = report(alloc, &finish) else {
         return Err(Refusal::NoMemory);
     };
-    match write_whole(host, Port::Report, text.as_bytes()) {
+    match write_whole(host, Port::Report, &text) {
         Ok(()) => Ok(finish.end.status()),
         Err(_) => Err(Refusal::ReportFault),
     }
@@ -171,7 +170,7 @@ pub(crate) fn refuse<H: Host>(host: &mut H, refusal: &Refusal)
     ensures { WritesLine refusal.now (H.told host.old) (H.told host.new) (H.faults host.old) (H.faults host.new) }
 {
     let line = refusal_line(refusal);
-    match write_whole(host, Port::Report, line.as_bytes()) {
+    match write_whole(host, Port::Report, line.as_slice()) {
         Ok(()) => {}
         Err(_) => {}
     }

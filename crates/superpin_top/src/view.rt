@@ -9,12 +9,11 @@ ghost use Rattle.superpin_top.specs.Outcome.{AttemptGives, IsDecided, WhereAllTo
 ghost use Rattle.superpin_top.specs.Top.{IsBuilt, TextGives};
 ghost use Rattle.superpin_top.specs.Words.{ToView};
 
-use crate::answer::Refusal;
 use crate::file::{load_image, read_program};
 use elf_load::Image;
 use ins_views::Views;
 use sp_host::{Host, Port, write_whole};
-use sp_report::view_text;
+use sp_report::{Refusal, view_text};
 use std::alloc::{AllocError, Global};
 
 // The text of an image's code.

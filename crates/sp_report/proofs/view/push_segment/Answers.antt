@@ -4,7 +4,7 @@ use Rattle.std.specs.List.{flat_map, range_with_len}
 use Rattle.elf_load.specs.Image.{FunctionFields}
 use Rattle.ins_views.specs.Memory.{memory_word}
 use Rattle.sp_report.specs.View.{first_shown, lines_at, routine_line, segment_text, word_line}
-use Rattle.sp_report.proofs.Lines.{flat_map_range, same_routines}
+use Rattle.sp_report.proofs.ViewLines.{flat_map_range, same_routines}
 use Rattle.sp_report.proofs.view.push_segment.Goals as goal
 
 pub loop-k-preserved : goal.loop-k-preserved

@@ -1,10 +1,10 @@
 use Rattle.std.proofs.Common.{ℕ, refl, sym, subst, ◌∙◌}
 use Rattle.std.specs.Prelude.{Result, IfErr}
+use Rattle.sp_report.specs.declared.answer.Refusal.{Refusal}
 use Rattle.superpin_top.specs.Due.{Task}
 use Rattle.superpin_top.specs.Outcome.{AttemptGives, IsDecided}
 use Rattle.superpin_top.specs.Top.{IsBuilt}
 use Rattle.superpin_top.specs.Words.{Request, ToRun, ToView, texts}
-use Rattle.superpin_top.specs.declared.answer.Refusal.{Refusal}
 use Rattle.superpin_top.proofs.Ready.{attempt_none, is_asked, none_asked, not_asked, run_is_asked, view_is_asked}
 use Rattle.superpin_top.proofs.top.attempt.Goals as goal
 

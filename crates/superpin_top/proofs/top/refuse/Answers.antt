@@ -5,14 +5,14 @@ use Rattle.superpin_top.proofs.top.refuse.Goals as goal
 
 pub returns-in-Ok : goal.returns-in-Ok
 returns-in-Ok g c =
-    let whole = c.as_bytes.ensures.value ∙ (c.deref.ensures.0 ∙ c.refusal_line-line.ensures) in
-    record { line = c.as_bytes.result.now; rest = []; is_front = append-nil c.as_bytes.result.now ∙ whole; told_is = c.in-Ok.ensures.told; cause = inl (refl, c.in-Ok.ensures.faults) }
+    let whole = c.as_slice.ensures.value ∙ c.refusal_line-line.ensures in
+    record { line = c.as_slice.result.now; rest = []; is_front = append-nil c.as_slice.result.now ∙ whole; told_is = c.in-Ok.ensures.told; cause = inl (refl, c.in-Ok.ensures.faults) }
 
 pub returns-in-Err : goal.returns-in-Err
 returns-in-Err g c =
     let part = c.in-Err.ensures.told in
-    let line = c.as_bytes.result.now in
-    let whole = c.as_bytes.ensures.value ∙ (c.deref.ensures.0 ∙ c.refusal_line-line.ensures) in
+    let line = c.as_slice.result.now in
+    let whole = c.as_slice.ensures.value ∙ c.refusal_line-line.ensures in
     record {
       line = take part.count line;
       rest = drop part.count line;

@@ -1,10 +1,10 @@
 use Rattle.std.proofs.Common.{ℕ, sym, subst, ◌∙◌}
 use Rattle.std.specs.Prelude.{Result, IfErr}
+use Rattle.sp_report.specs.declared.answer.Refusal.{Refusal}
 use Rattle.superpin_top.specs.Due.{Runs, Task, task_in}
 use Rattle.superpin_top.specs.Outcome.{AttemptGives}
 use Rattle.superpin_top.specs.Top.{IsLate}
 use Rattle.superpin_top.specs.Words.{Request, ToRun, texts}
-use Rattle.superpin_top.specs.declared.answer.Refusal.{Refusal}
 use Rattle.superpin_top.proofs.Outcomes.{at_begin}
 use Rattle.superpin_top.proofs.Ready.{ran_decides, unready, unready_decides}
 use Rattle.superpin_top.proofs.top.run_asked.Goals as goal

@@ -1,6 +1,6 @@
 use Rattle.std.proofs.Common.{sym, subst, ◌∙◌}
 use Rattle.std.specs.Prelude.{Ok, Err}
-use Rattle.superpin_top.specs.declared.answer.Refusal.{Refusal}
+use Rattle.sp_report.specs.declared.answer.Refusal.{Refusal}
 use Rattle.superpin_top.specs.Causes.{CausedBy}
 use Rattle.superpin_top.specs.Due.{Program, Runs, run_of_program}
 use Rattle.superpin_top.specs.Outcome.{Refuses}
@@ -14,11 +14,11 @@ returns-in-Err-clause-told g c t w strings is begins =
     let p : Program = record { image = c.args.loaded.image; strings = strings; budget = c.args.budget } in
     let new = g.H.Host.told c.execute.new.host in
     let gives = subst (λ (r : Run). RunGives t r (Err c.in-Err.fault) new) (begun c.args.loaded.image strings c.args.budget c.args.loaded.guest.machine w begins) (c.in-Err.ensures.told t w is) in
-    subst (λ (refusal : Refusal). Refuses t (Ok (Runs p)) w refusal new) (sym c.from.ensures) (run_refuses t new p w c.in-Err.fault gives)
+    subst (λ (refusal : Refusal). Refuses t (Ok (Runs p)) w refusal new) (sym c.refusal_of_run.ensures) (run_refuses t new p w c.in-Err.fault gives)
 
 pub returns-in-Err-clause-faults : goal.returns-in-Err-clause-faults
 returns-in-Err-clause-faults g c =
-    subst (λ (refusal : Refusal). CausedBy refusal (g.H.Host.faults c.args.host.now) (g.H.Host.faults c.execute.new.host)) (sym c.from.ensures) c.in-Err.ensures.faults
+    subst (λ (refusal : Refusal). CausedBy refusal (g.H.Host.faults c.args.host.now) (g.H.Host.faults c.execute.new.host)) (sym c.refusal_of_run.ensures) c.in-Err.ensures.faults
 
 pub returns-in_default-clause-told : goal.returns-in_default-clause-told
 returns-in_default-clause-told g c t w strings is begins =
@@ -33,8 +33,8 @@ returns-in-Ok-write_whole-clause-told g c t w strings is begins =
     let mid = g.H.Host.told c.execute.new.host in
     let finish = c.in-Ok.finish in
     let gives = subst (λ (r : Run). RunGives t r (Ok finish) mid) (begun c.args.loaded.image strings c.args.budget c.args.loaded.guest.machine w begins) (c.in-Ok.ensures.told t w is) in
-    reported t p w finish mid (g.H.Host.told c.write_whole.new.host) c.as_bytes.result.now c.status.result
-    (finishes t mid (run_of_program p w) finish gives) (c.as_bytes.ensures.value ∙ c.in-Ok-report.ensures) c.in-Ok-write_whole.ensures.told c.status.ensures
+    reported t p w finish mid (g.H.Host.told c.write_whole.new.host) c.deref.result.now c.status.result
+    (finishes t mid (run_of_program p w) finish gives) (c.deref.ensures.value ∙ c.in-Ok-report.ensures) c.in-Ok-write_whole.ensures.told c.status.ensures
 
 pub returns-clause-told : goal.returns-clause-told
 returns-clause-told g c t w strings is begins =
@@ -42,5 +42,5 @@ returns-clause-told g c t w strings is begins =
     let mid = g.H.Host.told c.execute.new.host in
     let finish = c.in-Ok.finish in
     let gives = subst (λ (r : Run). RunGives t r (Ok finish) mid) (begun c.args.loaded.image strings c.args.budget c.args.loaded.guest.machine w begins) (c.in-Ok.ensures.told t w is) in
-    not_reported t p w finish mid (g.H.Host.told c.write_whole.new.host) c.as_bytes.result.now
-    (finishes t mid (run_of_program p w) finish gives) (c.as_bytes.ensures.value ∙ c.in-Ok-report.ensures) c.in-Err-write_whole.ensures.told
+    not_reported t p w finish mid (g.H.Host.told c.write_whole.new.host) c.deref.result.now
+    (finishes t mid (run_of_program p w) finish gives) (c.deref.ensures.value ∙ c.in-Ok-report.ensures) c.in-Err-write_whole.ensures.told

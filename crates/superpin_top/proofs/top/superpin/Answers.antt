@@ -1,9 +1,9 @@
 use Rattle.std.proofs.Common.{ap, arith}
 use Rattle.sp_host.specs.Faults.{File, Input}
+use Rattle.sp_report.specs.declared.answer.Answer.TheVariants.{Refused}
+use Rattle.sp_report.specs.declared.answer.Refusal.{Refusal}
 use Rattle.superpin_top.specs.Words.{texts}
 use Rattle.superpin_top.specs.Due.{task_of}
-use Rattle.superpin_top.specs.declared.answer.Answer.TheVariants.{Refused}
-use Rattle.superpin_top.specs.declared.answer.Refusal.{Refusal}
 use Rattle.superpin_top.proofs.Causes.{refused_where, port_where, report_rose, guests_port}
 use Rattle.superpin_top.proofs.Headline.{early_of, refused_follows}
 use Rattle.superpin_top.proofs.top.superpin.Goals as goal

@@ -1,7 +1,7 @@
 -- The exit status of the program.
 use Rattle.std.specs.Prelude.{ℕ}
-use Rattle.superpin_top.specs.declared.answer.Answer.{Answer}
-use Rattle.superpin_top.specs.declared.answer.Answer.TheVariants.{Ended, Refused}
+use Rattle.sp_report.specs.declared.answer.Answer.{Answer}
+use Rattle.sp_report.specs.declared.answer.Answer.TheVariants.{Ended, Refused}
 
 abbrev pub exit_code_of : Answer → ℕ
 exit_code_of (Ended status cuts) = status

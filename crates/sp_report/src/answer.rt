@@ -1,6 +1,6 @@
 // What a run answers.
 ghost use Rattle.std.specs.Prelude.{◌≡◌, []};
-ghost use Rattle.superpin_top.specs.Answer.{exit_code_of};
+ghost use Rattle.sp_report.specs.Answer.{exit_code_of};
 
 use elf_load::ElfFault;
 use sp_host::Port;

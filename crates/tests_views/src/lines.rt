@@ -1,0 +1,201 @@
+// The end line of a run, and the lines of refusals.
+use elf_load::ElfFault;
+use rv_machine::{End, FaultKind};
+use sp_host::Port;
+use sp_report::{Answer, Cuts, Refusal, end_line, exit_code, refusal_line};
+use std::test::Fail;
+
+const LINES: [(Refusal, &str); 31] = [
+    (Refusal::FileFault, "superpin: 2 file fault\n"),
+    (Refusal::FileTooLarge, "superpin: 3 file too large\n"),
+    (
+        Refusal::Elf(ElfFault::TooShort),
+        "superpin: 4 elf 1 TooShort\n",
+    ),
+    (Refusal::Elf(ElfFault::NotElf), "superpin: 4 elf 2 NotElf\n"),
+    (
+        Refusal::Elf(ElfFault::NotElf32Little),
+        "superpin: 4 elf 3 NotElf32Little\n",
+    ),
+    (
+        Refusal::Elf(ElfFault::NotExec),
+        "superpin: 4 elf 4 NotExec\n",
+    ),
+    (
+        Refusal::Elf(ElfFault::NotRiscv),
+        "superpin: 4 elf 5 NotRiscv\n",
+    ),
+    (
+        Refusal::Elf(ElfFault::Flags { value: 0xfedcba09 }),
+        "superpin: 4 elf 6 Flags 0xfedcba09\n",
+    ),
+    (
+        Refusal::Elf(ElfFault::HeaderSizes),
+        "superpin: 4 elf 7 HeaderSizes\n",
+    ),
+    (
+        Refusal::Elf(ElfFault::TableOutOfFile),
+        "superpin: 4 elf 8 TableOutOfFile\n",
+    ),
+    (
+        Refusal::Elf(ElfFault::Interpreter),
+        "superpin: 4 elf 9 Interpreter\n",
+    ),
+    (
+        Refusal::Elf(ElfFault::SegmentOutOfFile { k: 65_535 }),
+        "superpin: 4 elf 10 SegmentOutOfFile 65535\n",
+    ),
+    (
+        Refusal::Elf(ElfFault::BadSegment { k: 0 }),
+        "superpin: 4 elf 11 BadSegment 0\n",
+    ),
+    (
+        Refusal::Elf(ElfFault::SharedPage { k: 1 }),
+        "superpin: 4 elf 12 SharedPage 1\n",
+    ),
+    (
+        Refusal::Elf(ElfFault::WritableCode { k: 10 }),
+        "superpin: 4 elf 13 WritableCode 10\n",
+    ),
+    (
+        Refusal::Elf(ElfFault::OutsideUser { k: 31 }),
+        "superpin: 4 elf 14 OutsideUser 31\n",
+    ),
+    (
+        Refusal::Elf(ElfFault::TooManyPages),
+        "superpin: 4 elf 15 TooManyPages\n",
+    ),
+    (
+        Refusal::Elf(ElfFault::BadEntry),
+        "superpin: 4 elf 16 BadEntry\n",
+    ),
+    (
+        Refusal::Elf(ElfFault::BadSymbols),
+        "superpin: 4 elf 17 BadSymbols\n",
+    ),
+    (
+        Refusal::Elf(ElfFault::NoMemory),
+        "superpin: 4 elf 18 NoMemory\n",
+    ),
+    (
+        Refusal::ArgsTooLong { bytes: 65_537 },
+        "superpin: 5 arguments 65537\n",
+    ),
+    (
+        Refusal::ArgsTooLong { bytes: u64::MAX },
+        "superpin: 5 arguments 18446744073709551615\n",
+    ),
+    (
+        Refusal::UnsupportedCall {
+            number: 4_294_967_295,
+            pc: 0x1_0074,
+        },
+        "superpin: 6 unsupported call 4294967295 at 0x00010074\n",
+    ),
+    (
+        Refusal::BudgetSpent {
+            n: 1_099_511_627_776,
+        },
+        "superpin: 7 budget 1099511627776 spent\n",
+    ),
+    (Refusal::InputFault, "superpin: 8 input fault\n"),
+    (
+        Refusal::OutputFault { port: Port::Out },
+        "superpin: 9 output fault Out\n",
+    ),
+    (
+        Refusal::OutputFault { port: Port::Err },
+        "superpin: 9 output fault Err\n",
+    ),
+    (
+        Refusal::OutputFault { port: Port::Report },
+        "superpin: 9 output fault Report\n",
+    ),
+    (Refusal::ReportFault, ""),
+    (Refusal::NoMemory, "superpin: 11 no memory\n"),
+    (Refusal::NotBuilt, "superpin: 90 not built\n"),
+];
+
+#[test]
+fn of_each_refusal(rt: HostRuntime) -> Result<(), Fail> {
+    for (k, (refusal, line)) in LINES.iter().enumerate() {
+        assert!(rt;
+            refusal_line(refusal).as_slice() == line.as_bytes(),
+            "row {k}"
+        );
+        assert!(rt; exit_code(&Answer::Refused(*refusal)) == 125, "row {k}");
+    }
+    Ok(())
+}
+
+// How a run ends, its line, and the exit status.
+struct Row {
+    end: End,
+    line: &'static str,
+    status: u8,
+}
+
+const ENDS: [Row; 7] = [
+    Row {
+        end: End::Exit(0),
+        line: "end exit 0\n",
+        status: 0,
+    },
+    Row {
+        end: End::Exit(7),
+        line: "end exit 7\n",
+        status: 7,
+    },
+    Row {
+        end: End::Exit(255),
+        line: "end exit 255\n",
+        status: 255,
+    },
+    Row {
+        end: End::Signal {
+            kind: FaultKind::Illegal,
+            pc: 0x10078,
+        },
+        line: "end signal 4 at 0x00010078\n",
+        status: 132,
+    },
+    Row {
+        end: End::Signal {
+            kind: FaultKind::Break,
+            pc: 0,
+        },
+        line: "end signal 5 at 0x00000000\n",
+        status: 133,
+    },
+    Row {
+        end: End::Signal {
+            kind: FaultKind::Misaligned,
+            pc: 0x1234abcd,
+        },
+        line: "end signal 7 at 0x1234abcd\n",
+        status: 135,
+    },
+    Row {
+        end: End::Signal {
+            kind: FaultKind::Access,
+            pc: 0xfffffffc,
+        },
+        line: "end signal 11 at 0xfffffffc\n",
+        status: 139,
+    },
+];
+
+#[test]
+fn of_each_end(rt: HostRuntime) -> Result<(), Fail> {
+    let alloc = rt.alloc();
+    for (k, row) in ENDS.iter().enumerate() {
+        let line = end_line(alloc, &row.end)?;
+        assert!(rt; line.as_slice() == row.line.as_bytes(), "row {k}");
+        let answer = Answer::Ended {
+            status: row.end.status(),
+            cuts: Cuts::none(alloc),
+        };
+        assert!(rt; exit_code(&answer) == row.status, "row {k}");
+    }
+    Ok(())
+}
