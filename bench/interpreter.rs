@@ -5,9 +5,11 @@
 //! `interpreter make FILE` writes the guest program that is measured.
 
 mod arithmetic;
+mod fields;
 mod guest;
 
-use arithmetic::{branch_offset, compute, compute_immediate, is_taken, jump_offset};
+use arithmetic::{compute, compute_immediate, is_taken};
+use fields::{branch_offset, jump_offset};
 use std::io::{Write, stderr, stdout};
 use std::process::ExitCode;
 use std::{env, fs};

@@ -1,40 +1,62 @@
 #!/usr/bin/env bash
-# Measures superpin beside a plain interpreter in Rust, over one guest program of about 10^8 steps:
+# Measures superpin beside two interpreters in Rust, over guest programs of about 10^8 steps each:
 #
-#     bench/run.sh [PROGRAM]
+#     bench/run.sh [TURNS]
 #
-# PROGRAM is the proved program, by default the one that the launcher ./superpin runs. It is run as it stands, so call the
-# launcher first where a source has changed. Prints the steps a second of both, each the best of five runs by the processor
-# time that they took, and the ratio. Needs rustc, awk and bash, whose `times` counts thousandths of a second: in the plain
-# shell it counts hundredths, which are 1.5 in 100 of a run.
+# The guests are a generated loop and, where guest/superpin-cc works, four programs in C. For each guest a line has the steps a
+# second, in millions, each the best of TURNS runs (5 where none is said) by the processor time that they took:
+#
+#     superpin   `superpin run --by serial`, which counts instructions
+#     run        a guest without a tool, by stretches of steps (`guest_bench run`)
+#     step       the same step by step (`guest_bench step`)
+#     plain      the plain interpreter of interpreter.rs, which reads each word anew
+#     fast       the fast one of fast.rs, whose code is decoded once
+#
+# and then superpin / plain, run / fast and step / fast. The programs in out/ are run as they stand: `rt ci guest_bench
+# superpin` makes them. Needs rustc, awk and bash, whose `times` counts thousandths of a second.
 set -eu
 export LC_ALL=C
 
 bench=$(cd "$(dirname "$0")" && pwd)
 top=$(dirname "$bench")
-program=${1:-$top/crates/superpin/out/superpin}
-case $program in
-    /*) ;;
-    *) program=$PWD/$program ;;
-esac
-if [ ! -x "$program" ]; then
-    echo "run.sh: there is no $program; make it by: $top/superpin run --by serial $top/crates/superpin/data/hello.elf" >&2
-    exit 1
-fi
+turns=${1:-5}
+superpin=$top/crates/superpin/out/superpin
+guest_bench=$top/crates/guest_bench/out/guest_bench
+for program in "$superpin" "$guest_bench"; do
+    if [ ! -x "$program" ]; then
+        echo "run.sh: there is no $program; make it by: rt ci superpin guest_bench" >&2
+        exit 1
+    fi
+done
 
 folder=$(mktemp -d)
 trap 'rm -rf "$folder"' EXIT
 trap 'exit 1' HUP INT TERM
 
 # Named from its own folder, so that the code is the same wherever the repository stands: its place in memory tells in the time.
-(cd "$bench" && exec rustc -O --edition 2024 -o "$folder/interpreter" interpreter.rs)
-"$folder/interpreter" make "$folder/guest"
+for name in interpreter fast; do
+    (cd "$bench" && exec rustc -O --edition 2024 -o "$folder/$name" "$name.rs")
+done
 
-# Runs a program over the guest, and adds to the list NAME how many steps it took, and how many it did a second.
+# Compiles an example, with one of its numbers set.
+compile() {
+    "$top/guest/superpin-cc" -O2 "-D$3" -o "$folder/$1" "$top/$2" 2>"$folder/log" && guests="$guests $1"
+}
+"$folder/interpreter" make "$folder/loop"
+guests=loop
+compile quicksort guest/examples/quicksort.c COUNT=187000 &&
+    compile sieve guest/examples/sieve.c LIMIT=7200000 &&
+    compile matrix guest/examples/matrix.c SIZE=242 &&
+    compile digest bench/programs/digest.c BLOCKS=7000 ||
+    echo "run.sh: without the programs in C, since guest/superpin-cc said: $(head -n 1 "$folder/log")" >&2
+
+# Runs a command over a guest, and adds to the list GUEST.NAME how many steps it took, and how many it did a second.
 measure() {
+    list=$folder/$1
+    shift
     times >"$folder/before"
-    if ! "$2" run --by serial --budget 200000000 "$folder/guest" 2>"$folder/report"; then
-        echo "run.sh: $2 did not end with 0:" >&2
+    if ! "$@" >"$folder/output" 2>"$folder/report"; then
+        echo "run.sh: $* did not end with 0:" >&2
         cat "$folder/report" >&2
         exit 1
     fi
@@ -47,26 +69,33 @@ measure() {
         file == 2 && FNR == 2 { spent += seconds($1) + seconds($2) }
         file == 3 && $1 == "icount" { steps = $2 }
         END { printf "%d %.0f\n", steps, steps / spent }
-    ' "$folder/before" "$folder/after" "$folder/report" >>"$folder/$1"
+    ' "$folder/before" "$folder/after" "$folder/report" >>"$list"
 }
 
-for turn in 1 2 3 4 5; do
-    measure superpin "$program"
-    measure plain "$folder/interpreter"
-done
-
-awk '
-    steps && $1 != steps { is_apart = 1; exit 1 }
-    { steps = $1 }
-    FNR == 1 { file++ }
-    $2 > best[file] { best[file] = $2 }
-    END {
-        if (is_apart) {
-            print "run.sh: the two did not take the same number of steps: " steps " and " $1 >"/dev/stderr"
-            exit 1
+words="run --by serial --budget 1000000000"
+printf '%-10s %12s %9s %6s %6s %6s %6s %15s %10s %11s\n' guest steps superpin run step plain fast superpin/plain run/fast step/fast
+for guest in $guests; do
+    file=$folder/$guest
+    for ((turn = 0; turn < turns; turn++)); do
+        measure "$guest.1" "$superpin" $words "$file"
+        measure "$guest.2" "$guest_bench" run "$file"
+        measure "$guest.3" "$guest_bench" step "$file"
+        measure "$guest.4" "$folder/interpreter" $words "$file"
+        measure "$guest.5" "$folder/fast" $words "$file"
+    done
+    awk -v guest="$guest" '
+        steps && $1 != steps { is_apart = 1; exit 1 }
+        { steps = $1 }
+        FNR == 1 { file++ }
+        $2 > best[file] { best[file] = $2 }
+        END {
+            if (is_apart) {
+                print "run.sh: not all took the same number of steps of " guest ": " steps " and " $1 >"/dev/stderr"
+                exit 1
+            }
+            printf "%-10s %12d", guest, steps
+            printf " %9.1f %6.1f %6.1f %6.1f %6.1f", best[1] / 1e6, best[2] / 1e6, best[3] / 1e6, best[4] / 1e6, best[5] / 1e6
+            printf " %15.2f %10.2f %11.2f\n", best[1] / best[4], best[2] / best[5], best[3] / best[5]
         }
-        printf "superpin: %.1f million steps a second\n", best[1] / 1000000
-        printf "plain interpreter: %.1f million steps a second\n", best[2] / 1000000
-        printf "superpin / plain interpreter: %.2f\n", best[1] / best[2]
-    }
-' "$folder/superpin" "$folder/plain"
+    ' "$file.1" "$file.2" "$file.3" "$file.4" "$file.5"
+done

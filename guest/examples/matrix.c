@@ -1,7 +1,9 @@
 // Shows multiplication in nested loops: the product of two matrices, and the sum of its diagonal.
 #include <stdio.h>
 
-enum { SIZE = 64 };
+#ifndef SIZE
+#define SIZE 64
+#endif
 
 static int left[SIZE][SIZE], right[SIZE][SIZE], product[SIZE][SIZE];
 

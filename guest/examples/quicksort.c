@@ -1,7 +1,9 @@
 // Shows calls by a function pointer: sorts the same numbers twice, in two orders.
 #include <stdio.h>
 
-enum { COUNT = 2000 };
+#ifndef COUNT
+#define COUNT 2000
+#endif
 
 static unsigned numbers[COUNT];
 

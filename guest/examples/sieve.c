@@ -1,7 +1,9 @@
 // Shows a long loop over memory: counts the prime numbers below a million by the sieve of Eratosthenes.
 #include <stdio.h>
 
-enum { LIMIT = 1000000 };
+#ifndef LIMIT
+#define LIMIT 1000000
+#endif
 
 static char is_crossed[LIMIT];
 

@@ -160,7 +160,8 @@ impl PlannedCall {
     }
 
     /// The event of this call, with the registers at its point. It rests on the arguments alone.
-    pub(crate) fn asked_event(&self, operands: &Operands, registers: &[u32; 32]) -> Event
+    #[inline(always)]
+    pub fn asked_event(&self, operands: &Operands, registers: &[u32; 32]) -> Event
         ensures { result ≡ event_of operands.now registers.now self.now }
     {
         let args = &self.args;

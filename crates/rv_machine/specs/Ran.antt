@@ -45,11 +45,18 @@ Stops answers.Next completed steps pages g = (completed ≡ steps) ⊎ (pages < 
 Stops answers.Call completed steps pages g = (completed < steps) × (effect_of g.machine ≡ Call)
 Stops (answers.Fault kind) completed steps pages g = (completed < steps) × (effect_of g.machine ≡ Fault (kind_number kind))
 
+-- how many steps were tried: a call and a fault were, and did not complete
+abbrev pub tried : Stepped → ℕ → ℕ
+tried answers.Next completed = completed
+tried answers.Call completed = completed + 1
+tried (answers.Fault kind) completed = completed + 1
+
 -- a guest ran for at most so many steps, up to the first after which more pages than that are written
 pub record HasRun (steps pages : ℕ) (old new : GuestState) (ran : Ran) : Type 0 where
   pub machine : machine_after ran.completed old.machine ≡ Running new.machine
   pub frames : TakesFrames old.frames new.frames (stored_along ran.completed old.machine)
   pub origin : new.origin ≡ old.origin
   pub within : ran.completed ≤ steps
-  pub few : (k : ℕ) → 0 < k → k < ran.completed → written_after k old ≤ pages
+  -- no more pages than that are written after each step behind which another one was tried
+  pub few : (k : ℕ) → 0 < k → k < tried ran.last ran.completed → written_after k old ≤ pages
   pub stops : Stops ran.last ran.completed steps pages new

@@ -53,6 +53,13 @@ impl Guest {
         self.registers[n as usize]
     }
 
+    /// The registers, from x0 on.
+    pub fn registers(&self) -> &[u32; 32]
+        ensures { result.now ≡ self.now.machine.registers }
+    {
+        &self.registers
+    }
+
     /// Whether the last instruction ended a block, or none has run.
     pub fn fresh(&self) -> bool
         ensures { result ≡ self.now.machine.fresh }

@@ -123,8 +123,8 @@ impl Guest {
         }
     }
 
-    // Carries out an instruction. Each load and store has an arm of its own, so that its size is a
-    // constant there.
+    // Carries out an instruction. Each operation has an arm of its own, in which what depends on it
+    // alone is settled.
     fn carry_out(&mut self, i: &Instr) -> Stepped
         requires { HasAllFrames self.old.frames (stored_by (effect_by i.now.op self.old.machine i.now)) }
         ensures { Gives (effect_by i.now.op self.old.machine i.now) result self.old self.new }
@@ -134,7 +134,12 @@ impl Guest {
             Op::Auipc => self.write(i, self.target(i)),
             Op::Jal => self.jump(i, self.target(i)),
             Op::Jalr => self.jump(i, self.address(i) & !1),
-            Op::Beq | Op::Bne | Op::Blt | Op::Bge | Op::Bltu | Op::Bgeu => self.branch(i),
+            Op::Beq => self.branch(i),
+            Op::Bne => self.branch(i),
+            Op::Blt => self.branch(i),
+            Op::Bge => self.branch(i),
+            Op::Bltu => self.branch(i),
+            Op::Bgeu => self.branch(i),
             Op::Lb => self.load_register(i),
             Op::Lh => self.load_register(i),
             Op::Lw => self.load_register(i),
@@ -143,13 +148,36 @@ impl Guest {
             Op::Sb => self.store(i),
             Op::Sh => self.store(i),
             Op::Sw => self.store(i),
-            Op::Addi | Op::Slti | Op::Sltiu => self.compute(i, immediate(i)),
-            Op::Xori | Op::Ori | Op::Andi => self.compute(i, immediate(i)),
-            Op::Slli | Op::Srli | Op::Srai => self.compute(i, immediate(i)),
+            Op::Addi => self.compute(i, immediate(i)),
+            Op::Slti => self.compute(i, immediate(i)),
+            Op::Sltiu => self.compute(i, immediate(i)),
+            Op::Xori => self.compute(i, immediate(i)),
+            Op::Ori => self.compute(i, immediate(i)),
+            Op::Andi => self.compute(i, immediate(i)),
+            Op::Slli => self.compute(i, immediate(i)),
+            Op::Srli => self.compute(i, immediate(i)),
+            Op::Srai => self.compute(i, immediate(i)),
+            Op::Add => self.compute(i, self.rs2(i)),
+            Op::Sub => self.compute(i, self.rs2(i)),
+            Op::Sll => self.compute(i, self.rs2(i)),
+            Op::Slt => self.compute(i, self.rs2(i)),
+            Op::Sltu => self.compute(i, self.rs2(i)),
+            Op::Xor => self.compute(i, self.rs2(i)),
+            Op::Srl => self.compute(i, self.rs2(i)),
+            Op::Sra => self.compute(i, self.rs2(i)),
+            Op::Or => self.compute(i, self.rs2(i)),
+            Op::And => self.compute(i, self.rs2(i)),
+            Op::Mul => self.compute(i, self.rs2(i)),
+            Op::Mulh => self.compute(i, self.rs2(i)),
+            Op::Mulhsu => self.compute(i, self.rs2(i)),
+            Op::Mulhu => self.compute(i, self.rs2(i)),
+            Op::Div => self.compute(i, self.rs2(i)),
+            Op::Divu => self.compute(i, self.rs2(i)),
+            Op::Rem => self.compute(i, self.rs2(i)),
+            Op::Remu => self.compute(i, self.rs2(i)),
             Op::Fence => self.go_on(i),
             Op::Ecall => Stepped::Call,
             Op::Ebreak => Stepped::Fault(FaultKind::Break),
-            _ => self.compute(i, self.rs2(i)),
         }
     }
 
@@ -241,6 +269,7 @@ impl Guest {
         Stepped::Next
     }
 
+    #[inline(always)]
     fn branch(&mut self, i: &Instr) -> Stepped
         ensures { Gives (branches self.old.machine i.now) result self.old self.new }
     {

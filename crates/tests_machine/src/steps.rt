@@ -432,6 +432,42 @@ fn runs_up_to_a_limit(rt: HostRuntime) -> Result<(), Fail> {
     Ok(())
 }
 
+// auipc x5, 16; jalr x0, 8(x5), in the first segment; addi x6, x0, 5; lui x7, 0x30; jalr x0, 0(x7), in the second one too
+const JUMPS_ACROSS: [u32; 5] = [0x00010297, 0x00828067, 0x00500313, 0x000303b7, 0x00038067];
+
+// The second program header is made that of code: the last three words of the file, at 0x2007c.
+const SECOND_CODE: [(usize, u8); 6] = [
+    (88, 0x7c),
+    (92, 0x7c),
+    (100, 12),
+    (104, 12),
+    (105, 0),
+    (108, 5),
+];
+
+fn two_codes(alloc: Global) -> Result<Vec<u8>, AllocError> {
+    let mut file = two_segments(alloc, &JUMPS_ACROSS)?;
+    for (place, value) in SECOND_CODE {
+        if let Some(byte) = file.get_mut(place) {
+            *byte = value;
+        }
+    }
+    Ok(file)
+}
+
+// It jumps from one segment of code to the other, and then to an address outside both.
+#[test]
+fn two_segments_of_code(rt: HostRuntime) -> Result<(), Fail> {
+    let file = two_codes(rt.alloc())?;
+    let mut guest = guest_of(rt.alloc(), &file, &[]).ok_or("no guest")?;
+    let ran = guest.run(1000, 9);
+    assert!(rt; ran.completed == 5 && ran.last == ACCESS);
+    assert!(rt; guest.pc() == 0x30000 && guest.reg(5) == 0x20074 && guest.reg(6) == 5);
+    let mut again = guest_of(rt.alloc(), &file, &[]).ok_or("no guest")?;
+    assert!(rt; step_after(&mut again, 5) == Some(ACCESS) && again.pc() == 0x30000);
+    Ok(())
+}
+
 // addi x17, x0, 63; lui x11, 0x7fe00; lui x12, 3; ecall: a read into three pages of the stack
 const READS_THREE_PAGES: [u32; 4] = [0x03f00893, 0x7fe005b7, 0x00003637, 0x00000073];
 

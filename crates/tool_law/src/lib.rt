@@ -2,6 +2,7 @@
 //! pieces.
 #![tactic(auto)]
 
+pub mod laws;
 mod piece;
 mod plan;
 mod tool;
