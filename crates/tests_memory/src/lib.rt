@@ -2,8 +2,4 @@
 #![tactic(auto)]
 
 #[cfg(test)]
-mod compare;
-#[cfg(test)]
-mod forks;
-#[cfg(test)]
 mod space;
