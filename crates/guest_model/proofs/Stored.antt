@@ -1,13 +1,12 @@
 -- An instruction stores nothing, or at most four bytes.
-use Rattle.std.proofs.Common.{◌≡◌, ℕ, ◌%◌, ◌==◌, ◌≤◌, ◌⊎◌, Bool, true, false, cond, List, [], ◌∷◌, refl, subst, sym, ap, ◌∙◌, inl, inr, arith}
+use Rattle.std.proofs.Common.{◌≡◌, ℕ, ◌%◌, ◌==◌, ◌≤◌, ◌⊎◌, Bool, true, false, cond, List, [], ◌∷◌, refl, subst, inl, inr, arith}
 use Rattle.std.specs.Prelude.{Option, Some, None}
-use Rattle.rv_isa.specs.Arithmetic.{alu_of}
 use Rattle.rv_isa.specs.Decoded.{decoded}
 use Rattle.rv_isa.specs.Kinds.{is_taken, mem_size}
 use Rattle.rv_isa.specs.Table.{Fields}
 use Rattle.rv_isa.specs.declared.op.Op.{Op}
 use Rattle.rv_isa.specs.declared.op.Op.TheVariants.{Lui, Auipc, Jal, Jalr, Beq, Bne, Blt, Bge, Bltu, Bgeu, Lb, Lbu, Lh, Lhu, Lw, Sb, Sh, Sw, Fence, Ecall, Ebreak}
-use Rattle.guest_model.specs.Effect.{Effect, Next, Call, Fault, rs1_value, rs2_value, address, target, goes_on, passes, writes_some, computes, jumps, branches, loads, loads_some, stores, stores_some, machine_at, machine_with, misaligned, effect_by, effect_of, effect_of_instruction, effect_of_word}
+use Rattle.guest_model.specs.Effect.{Effect, Next, Call, Fault, rs1_value, rs2_value, address, target, goes_on, passes, writes_some, branches, loads, loads_some, stores, stores_some, machine_at, machine_with, misaligned, effect_by, effect_of, effect_of_instruction, effect_of_word}
 use Rattle.guest_model.specs.Machine.{Machine, following}
 use Rattle.guest_model.specs.Range.{Range, range}
 use Rattle.guest_model.specs.Space.{Space, read_number, write_number}

@@ -1,5 +1,5 @@
 -- What a call does to a machine and to the world outside.
-use Rattle.std.specs.Prelude.{ℕ, ◌*◌, ◌/◌, ◌%◌, true, List, [], ◌∷◌, ◌++◌, length, take, drop, Option, None, Some, slice_set, slice_index}
+use Rattle.std.specs.Prelude.{ℕ, ◌/◌, ◌%◌, true, List, [], ◌∷◌, ◌++◌, length, take, drop, Option, None, Some, slice_set, slice_index}
 use Rattle.std.specs.List.{fold}
 use Rattle.call_record.specs.Record.{CallRecord, Stored}
 use Rattle.guest_model.specs.Bytes.{Bytes, low_bytes, put_bytes}

@@ -13,3 +13,6 @@ pub mod Valid
 pub mod Written
 pub mod Runs
 pub mod Serial
+pub mod Play
+pub mod Fits
+pub mod Tests

@@ -1,5 +1,5 @@
 -- Runs of a step function, whatever its states and ends are.
-use Rattle.std.specs.Prelude.{ℕ, zero, suc, List, [], ◌++◌}
+use Rattle.std.specs.Prelude.{ℕ, zero, suc, List, [], ◌∷◌, ◌++◌}
 
 -- where a run stands: at a state from which it goes on, or ended at its last state
 pub data RunState (S E : Type 0) : Type 0 where
@@ -25,3 +25,12 @@ here f (Ended s e) = []
 unfoldable pub along : {S E A : Type 0} → (S → RunState S E) → (S → List A) → ℕ → RunState S E → List A
 along step f zero x = []
 along step f (suc n) x = along step f n x ++ here f (after step n x)
+
+-- the state to which a step led
+abbrev pub landed : {S E : Type 0} → RunState S E → List S
+landed (Running s) = s ∷ []
+landed (Ended s e) = []
+
+-- the states after 1, 2, .. n steps, so far as the run goes on
+abbrev pub reached : {S E : Type 0} → (S → RunState S E) → ℕ → RunState S E → List S
+reached step n x = along step (λ s. landed (step s)) n x

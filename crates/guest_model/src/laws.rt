@@ -4,6 +4,7 @@ ghost use Rattle.call_record.specs.Record.{CallRecord};
 ghost use Rattle.guest_model.specs.Call.{World, Sent, Went, call_of, machine_after};
 ghost use Rattle.guest_model.specs.Calls.{Deed, deed_of, used_ranges};
 ghost use Rattle.guest_model.specs.Machine.{Machine};
+ghost use Rattle.guest_model.specs.Play.{played};
 ghost use Rattle.guest_model.specs.Range.{Range, total_size};
 ghost use Rattle.guest_model.specs.Runs.{Running, Ended, after};
 ghost use Rattle.guest_model.specs.Serial.{Position, End, run_of, step_of};
@@ -21,6 +22,12 @@ pub fn record_gives_next()
     ensures { (m next : Machine) (w later : World) (deed : Deed) (entry : CallRecord) (sent : List Sent)
         → deed_of m ≡ Some deed → call_of m w ≡ Went next later entry sent
         → next ≡ machine_after m deed entry }
+{}
+
+/// A play takes a machine behind its call to where the run goes, by the record that the run leaves.
+pub fn record_is_played()
+    ensures { (m next : Machine) (w later : World) (entry : CallRecord) (sent : List Sent)
+        → call_of m w ≡ Went next later entry sent → next ≡ played m entry }
 {}
 
 /// readv uses at most 8 ranges, with at most 65,536 bytes in all.

@@ -48,6 +48,9 @@ pub const MOST_USED: usize = 8;
 /// The bytes of a timespec: seconds and nanoseconds, each a number of 64 bits.
 pub const TIMESPEC_SIZE: u32 = 16;
 
+/// How many bytes from the stack pointer on the signature of a position holds.
+pub const SIGNATURE_BYTES: u32 = 256;
+
 /// How many nanoseconds a second has.
 pub const SECOND: u64 = 1_000_000_000;
 
