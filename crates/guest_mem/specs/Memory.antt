@@ -15,11 +15,13 @@ pub record Memory : Type 0 where
   pub frames : Frames
   -- the byte at each address as it was at the last freeze or fork, 0 where no area held it
   pub origin : List ℕ
+  -- for each page, whether it is named as changed since then
+  pub changed : List Bool
 
 -- a guest's memory as it was at a freeze
 pub record FrozenMemory : Type 0 where
   pub space : Space
-  -- for each page, whether it was changed since the state that this one came from
+  -- for each page, whether it is named as changed since the state that this one came from
   pub changed : List Bool
 
 -- the byte at each address, 0 where no area holds it
@@ -40,8 +42,9 @@ abbrev pub IsApart : Area → List Area → Type 0
 IsApart x areas = (a : ℕ) → holds x a ≡ true → is_mapped areas a ≡ false
 
 abbrev pub memory_code : Coded Memory
-memory_code = code_by (Space × (Frames × List ℕ)) (coded× space_code (coded× frames_code (coded_list coded_ℕ)))
-    (λ m. (m.space, (m.frames, m.origin))) (λ p. record { space = p.0; frames = p.1.0; origin = p.1.1 }) (λ _. refl)
+memory_code = code_by (Space × (Frames × (List ℕ × List Bool))) (coded× space_code (coded× frames_code (coded× (coded_list coded_ℕ) (coded_list coded_bool))))
+    (λ m. (m.space, (m.frames, (m.origin, m.changed))))
+    (λ p. record { space = p.0; frames = p.1.0; origin = p.1.1.0; changed = p.1.1.1 }) (λ _. refl)
 
 abbrev pub frozen_code : Coded FrozenMemory
 frozen_code = code_by (Space × List Bool) (coded× space_code (coded_list coded_bool)) (λ m. (m.space, m.changed)) (λ p. record { space = p.0; changed = p.1 }) (λ _. refl)

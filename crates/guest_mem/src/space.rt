@@ -11,7 +11,7 @@ ghost use Rattle.guest_model.specs.Added.{empty_space, with_area, mapped_pages, 
 ghost use Rattle.guest_model.specs.Maps.{grow_of, grown, growth, map_of, map_area, mapped};
 ghost use Rattle.guest_model.specs.Maps.{unmap_of, without_range, cut_areas};
 ghost use Rattle.guest_model.specs.Valid.{IsSpace};
-ghost use Rattle.cow_pages.specs.Marks.{count_marked};
+ghost use Rattle.cow_pages.specs.Marks.{count_marked, unmarked};
 ghost use Rattle.guest_model.specs.Range.{range};
 ghost use Rattle.guest_mem.specs.Code.{word_at};
 ghost use Rattle.guest_mem.specs.Frames.{HasAllFrames, TakesFrames, GivesFramesBack};
@@ -66,6 +66,7 @@ impl Model for Space {
       space = space_over s.areas.items s.pages.flat_bytes s.heap_break s.next_map;
       frames = s.pages.frames;
       origin = s.pages.origin;
+      changed = s.pages.changed;
     } };
 
     ghost invariant = { λ s. IsSoundWith s.areas.items s.rights s.pages s.heap_break s.next_map s.code };
@@ -80,6 +81,7 @@ impl Space {
         ensures space { IfOk result (λ m. m.space ≡ empty_space heap) }
         ensures frames { IfOk result (λ m. m.frames ≡ free_frames frames) }
         ensures origin { IfOk result (λ m. m.origin ≡ all_bytes m.space) }
+        ensures changed { IfOk result (λ m. m.changed ≡ unmarked (2 ^ 20)) }
     {
         let pages = Pages::empty(alloc, frames)?;
         let rights = RightsTable::empty(alloc)?;
@@ -101,14 +103,17 @@ impl Space {
         })
     }
 
-    /// The space as it is, which never changes from then on. The space goes on as before, and all its frames
-    /// are free. `Err`, with no change, where memory is lacking.
+    /// The space as it is, which never changes from then on. It names the pages that were changed since the last
+    /// freeze, and no page is named from then on: a second freeze names none. The space goes on as before, and all
+    /// its frames are free. `Err`, with no change, where memory is lacking.
     pub fn freeze(&mut self) -> Result<FrozenSpace, AllocError>
         ensures frozen { IfOk result (λ f. f.space ≡ self.old.space) }
         ensures changed { IfOk result (λ f. IsChangedWithin f.changed self.old.origin f.space) }
+        ensures named { IfOk result (λ f. f.changed ≡ self.old.changed) }
         ensures space { self.new.space ≡ self.old.space }
         ensures frames { OnOk result (self.new.frames ≡ free_frames self.old.frames.count) }
         ensures origin { OnOk result (self.new.origin ≡ all_bytes self.old.space) }
+        ensures none_named { OnOk result (self.new.changed ≡ unmarked (2 ^ 20)) }
         ensures unchanged { OnErr result (self.new ≡ self.old) }
     {
         let code = self.code.share()?;
@@ -130,6 +135,7 @@ impl Space {
         ensures space { IfOk result (λ m. m.space ≡ from.now.space) }
         ensures frames { IfOk result (λ m. m.frames ≡ free_frames peak) }
         ensures origin { IfOk result (λ m. m.origin ≡ all_bytes from.now.space) }
+        ensures none_named { IfOk result (λ m. m.changed ≡ unmarked (2 ^ 20)) }
     {
         let code = from.code.share()?;
         let rights = RightsTable::over(alloc, &from.rights)?;

@@ -1,6 +1,6 @@
 -- A guest as callers see it: a machine, and the frames of its memory's pages.
-use Rattle.std.specs.Prelude.{◌≡◌, ℕ, ◌-◌, ◌<◌, ◌≤◌, ◌^◌, List, min, Result, Ok, Err, refl}
-use Rattle.std.specs.Coded.{Coded, coded_ℕ, coded_list, coded×, code_by}
+use Rattle.std.specs.Prelude.{Bool, ◌≡◌, ℕ, ◌-◌, ◌<◌, ◌≤◌, ◌^◌, List, min, Result, Ok, Err, refl}
+use Rattle.std.specs.Coded.{Coded, coded_ℕ, coded_bool, coded_list, coded×, code_by}
 use Rattle.elf_load.specs.Image.{ImageFields}
 use Rattle.guest_model.specs.Machine.{Machine, machine_code}
 use Rattle.guest_model.specs.declared.platform.TheConstants.{MOST_STRINGS}
@@ -15,18 +15,21 @@ pub record GuestState : Type 0 where
   pub frames : Frames
   -- the byte at each address as it was at the last freeze or fork of the memory
   pub origin : List ℕ
+  -- for each page, whether it is named as changed since then
+  pub changed : List Bool
 
 -- the memory of a guest
 abbrev pub memory_of : GuestState → Memory
-memory_of g = record { space = g.machine.space; frames = g.frames; origin = g.origin }
+memory_of g = record { space = g.machine.space; frames = g.frames; origin = g.origin; changed = g.changed }
 
 -- the guest with another memory
 abbrev pub with_memory : GuestState → Memory → GuestState
-with_memory g memory = record { machine = record g.machine { space = memory.space }; frames = memory.frames; origin = memory.origin }
+with_memory g memory = record { machine = record g.machine { space = memory.space }; frames = memory.frames; origin = memory.origin; changed = memory.changed }
 
 abbrev pub guest_code : Coded GuestState
-guest_code = code_by (Machine × (Frames × List ℕ)) (coded× machine_code (coded× frames_code (coded_list coded_ℕ)))
-    (λ g. (g.machine, (g.frames, g.origin))) (λ p. record { machine = p.0; frames = p.1.0; origin = p.1.1 }) (λ _. refl)
+guest_code = code_by (Machine × (Frames × (List ℕ × List Bool))) (coded× machine_code (coded× frames_code (coded× (coded_list coded_ℕ) (coded_list coded_bool))))
+    (λ g. (g.machine, (g.frames, (g.origin, g.changed))))
+    (λ p. record { machine = p.0; frames = p.1.0; origin = p.1.1.0; changed = p.1.1.1 }) (λ _. refl)
 
 -- what loading answers: the guest at position 0 with so many free frames, or the number of bytes of the strings, which
 -- stands still at 2^64 - 1, where they are too many; memory is taken only where they are not

@@ -3,3 +3,4 @@ pub mod Guest
 pub mod Step
 pub mod Lending
 pub mod Ran
+pub mod Snapshot

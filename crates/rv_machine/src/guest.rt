@@ -32,6 +32,7 @@ impl Model for Guest {
       machine = record { pc = g.pc; registers = g.registers; space = g.memory.space; fresh = g.fresh };
       frames = g.memory.frames;
       origin = g.memory.origin;
+      changed = g.memory.changed;
     } };
 
     ghost invariant = { λ g. slice_index g.registers 0 ≡ 0 };

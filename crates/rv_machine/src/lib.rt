@@ -3,9 +3,11 @@
 
 mod guest;
 mod load;
+mod snapshot;
 mod stack;
 mod step;
 
 pub use guest::Guest;
 pub use load::LoadFault;
+pub use snapshot::Snapshot;
 pub use step::{End, FaultKind, Ran, Stepped};

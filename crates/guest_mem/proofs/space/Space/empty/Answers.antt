@@ -17,3 +17,6 @@ returns-clause-frames c = ap (λ (p : Contents). p.frames) c.in_ok-pages.ensures
 
 pub returns-clause-origin : goal.returns-clause-origin
 returns-clause-origin c = origin_begun _ c.in_ok-pages.pages c.args.heap 0x40000000 c.args.frames c.in_ok-pages.ensures.pages
+
+pub returns-clause-changed : goal.returns-clause-changed
+returns-clause-changed c = ap (λ (p : Contents). p.changed) c.in_ok-pages.ensures.pages

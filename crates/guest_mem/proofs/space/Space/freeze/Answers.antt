@@ -35,3 +35,9 @@ pub returns-clause-origin : goal.returns-clause-origin
 returns-clause-origin c =
     ap (λ p. p.origin) c.in_ok-pages.ensures.pages
     ∙ sym (all_bytes_are c.args.self.now.space c.self.inside.areas.items c.self.inside.pages.flat_bytes _ _ (ap (λ m. m.space) c.self.view_is) c.self.invariant.sound.pages_len c.self.invariant.sound.rest_zero)
+
+pub returns-clause-named : goal.returns-clause-named
+returns-clause-named c = ap (λ s. s.changed) c.in_ok-pages.ensures.shared ∙ ap (λ m. m.changed) c.self.view_is
+
+pub returns-clause-none_named : goal.returns-clause-none_named
+returns-clause-none_named c = ap (λ p. p.changed) c.in_ok-pages.ensures.pages
