@@ -1,5 +1,5 @@
 -- A guest's machine as it was at one moment, as callers see it.
-use Rattle.std.specs.Prelude.{Bool, ◌≡◌, ℕ, ◌^◌, List, refl}
+use Rattle.std.specs.Prelude.{Bool, ℕ, ◌^◌, List, refl}
 use Rattle.std.specs.Coded.{Coded, coded_bool, coded_list, coded×, code_by}
 use Rattle.cow_pages.specs.Marks.{unmarked}
 use Rattle.guest_model.specs.Machine.{Machine, machine_code}
