@@ -1,7 +1,7 @@
 -- The laws of runs of a step function.
-use Rattle.std.proofs.Common.{◌≡◌, ℕ, zero, suc, ◌+◌, ◌-◌, ◌<◌, List, [], ◌++◌, refl, sym, ap, ◌∙◌, add-one, add-zero, add-suc, arith, append_assoc}
+use Rattle.std.proofs.Common.{◌≡◌, ℕ, zero, suc, ◌+◌, ◌-◌, ◌*◌, ◌<◌, ◌≤◌, List, [], ◌++◌, refl, sym, ap, ◌∙◌, add-one, add-zero, add-suc, mul-zero, arith, append_assoc}
 use Rattle.std.proofs.lemmas.List.{append-nil}
-use Rattle.guest_model.specs.Runs.{RunState, Running, Ended, advance, after, here, along}
+use Rattle.guest_model.specs.Runs.{RunState, Running, Ended, IsRunning, advance, after, here, along}
 
 pub after-zero : {S E : Type 0} (step : S → RunState S E) (x : RunState S E) → after step 0 x ≡ x
 unfolding after
@@ -66,3 +66,45 @@ pub along-last : {S E A : Type 0} (step : S → RunState S E) (f : S → List A)
 along-last step f n most x q r e lt h ends =
     let size : n + 1 + (most - (n + 1)) ≡ most = omega arith in
     ap (λ (m : ℕ). along step f m x) (sym size) ∙ along_stays step f (n + 1) (most - (n + 1)) x r e (after-next step n x q h ∙ ends) ∙ along-next step f n x q h
+
+pub over_later : {S E : Type 0} (step : S → RunState S E) (a n : ℕ) (x : RunState S E) (s : S) (e : E) → a ≤ n → after step a x ≡ Ended s e → after step n x ≡ Ended s e
+over_later step a n x s e le h =
+    let sum : n ≡ a + (n - a) = omega arith in rw sum (over_stays step a (n - a) x s e h)
+
+-- a run that still goes on went on before
+running_before : {S E : Type 0} (step : S → RunState S E) (a b : ℕ) (x : RunState S E) → IsRunning (after step (a + b) x) → IsRunning (after step a x)
+running_before {S} {E} step a b x (t, h) = go (after step a x) refl
+  where
+    go : (y : RunState S E) → after step a x ≡ y → IsRunning y
+    go (Running s) e = (s, refl)
+    go (Ended s e) q = cc (over_stays step a b x s e q)
+
+pub running_earlier : {S E : Type 0} (step : S → RunState S E) (a n : ℕ) (x : RunState S E) → a ≤ n → IsRunning (after step n x) → IsRunning (after step a x)
+running_earlier step a n x le h =
+    let sum : n ≡ a + (n - a) = omega arith in running_before step a (n - a) x (rw sum at h)
+
+-- a run that came back to a state never ends
+comes_back : {S E : Type 0} (step : S → RunState S E) (k : ℕ) (s : S) → after step k (Running s) ≡ Running s → (m : ℕ) → after step (k * m) (Running s) ≡ Running s
+comes_back step k s h zero = rw mul-zero (after-zero step (Running s))
+comes_back step k s h (suc m) =
+    let size : k * suc m ≡ k + k * m = grind arith in
+    rw (size, after-add step k (k * m) (Running s), h) (comes_back step k s h m)
+
+pub never_ends : {S E : Type 0} (step : S → RunState S E) (k : ℕ) (s : S) → 1 ≤ k → after step k (Running s) ≡ Running s → (n : ℕ) → IsRunning (after step n (Running s))
+never_ends step k s positive h n = running_earlier step n (k * n) (Running s) (grind arith) (s, comes_back step k s h n)
+
+pub never_ends_from : {S E : Type 0} (step : S → RunState S E) (a k : ℕ) (s t : S) → 1 ≤ k → after step a (Running s) ≡ Running t → after step (a + k) (Running s) ≡ Running t → (n : ℕ) → IsRunning (after step n (Running s))
+never_ends_from step a k s t positive first again n =
+    let round : after step k (Running t) ≡ Running t = rw (after-add step a k (Running s), first) at again in
+    running_earlier step n (a + n) (Running s) (omega arith) (rw (after-add step a n (Running s), first) (never_ends step k t positive round n))
+
+-- the last of n + 1 steps
+pub last_step : {S E : Type 0} (step : S → RunState S E) (n : ℕ) (x : RunState S E) (t : S) → after step (suc n) x ≡ Running t → (s : S) × (after step n x ≡ Running s) × (step s ≡ Running t)
+last_step {S} {E} step n x t h = go (after step n x) refl
+  where
+    go : (y : RunState S E) → after step n x ≡ y → (s : S) × (after step n x ≡ Running s) × (step s ≡ Running t)
+    go (Running s) e = (s, e, sym (after-suc step n x ∙ ap (advance step) e) ∙ h)
+    go (Ended s end) e = cc (over_stays step n 1 x s end e, add-one n)
+
+pub running_same : {S E : Type 0} (x : RunState S E) (s t : S) → x ≡ Running s → x ≡ Running t → s ≡ t
+running_same x s t h g = cc

@@ -1,11 +1,12 @@
 -- The play: a machine alone, which takes what its calls did from a list of records.
-use Rattle.std.specs.Prelude.{ℕ, ◌+◌, ◌-◌, List, Option, None, Some, slice_get}
-use Rattle.call_record.specs.Record.{CallRecord}
+use Rattle.std.specs.Prelude.{ℕ, ◌+◌, ◌-◌, List, [], length, map, Option, None, Some, slice_get}
+use Rattle.call_record.specs.Record.{CallRecord, Stored}
 use Rattle.guest_model.specs.Call.{machine_after}
 use Rattle.guest_model.specs.Calls.{Deed, Answers, deed_of}
 use Rattle.guest_model.specs.Effect.{Effect, Next, Call, Fault, effect_of}
 use Rattle.guest_model.specs.Machine.{Machine}
-use Rattle.guest_model.specs.Runs.{RunState, Running, Ended, after}
+use Rattle.guest_model.specs.Range.{Range, range}
+use Rattle.guest_model.specs.Runs.{RunState, Running, Ended, after, along}
 use Rattle.guest_model.specs.Serial.{Position, TraceItem, item_of}
 
 -- a machine with its record position: the number of calls that went on before it
@@ -59,6 +60,27 @@ play_step script s = play_by script s (effect_of s.machine)
 -- where the play from s stands after n steps
 abbrev pub play_of : Script → ℕ → Spot → RunState Spot Halt
 play_of script n s = after (play_step script) n (Running s)
+
+-- where a record's bytes are stored
+abbrev pub range_of : Stored → Range
+range_of s = range s.at (length s.bytes)
+
+abbrev pub written_by_entry : Option CallRecord → List Range
+written_by_entry None = []
+written_by_entry (Some entry) = map range_of entry.stored
+
+-- the ranges that the step from s stores in
+abbrev pub written_in_play : Script → Spot → Effect → List Range
+written_in_play script s (Next next stored) = stored
+written_in_play script s Call = written_by_entry (entry_for script s.calls)
+written_in_play script s (Fault kind) = []
+
+unfoldable pub written_at : Script → Spot → List Range
+written_at script s = written_in_play script s (effect_of s.machine)
+
+-- the ranges that the first n steps of the play from s store in
+abbrev pub written_of : Script → ℕ → Spot → List Range
+written_of script n s = along (play_step script) (written_at script) n (Running s)
 
 abbrev pub machine_of : {E : Type 0} → RunState Spot E → Option Machine
 machine_of (Running s) = Some s.machine

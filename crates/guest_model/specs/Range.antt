@@ -1,6 +1,6 @@
 -- Ranges of addresses, and the pages that hold them.
-use Rattle.std.specs.Prelude.{ℕ, ◌+◌, ◌/◌, ◌==◌, Bool, List, sum_by}
-use Rattle.std.specs.List.{list_any, range_with_len}
+use Rattle.std.specs.Prelude.{ℕ, ◌+◌, ◌/◌, ◌^◌, ◌==◌, Bool, List, sum_by}
+use Rattle.std.specs.List.{count_by, list_any, range_with_len}
 use Rattle.guest_model.specs.Areas.{wrap}
 use Rattle.guest_model.specs.declared.platform.TheConstants as platform
 
@@ -23,3 +23,7 @@ is_page_of a n page = list_any (λ i. wrap (a + i) / platform.PAGE_SIZE == page)
 -- whether the page holds an address of one of the ranges
 unfoldable pub is_page_among : List Range → ℕ → Bool
 is_page_among ranges page = list_any (λ r. is_page_of r.at r.size page) ranges
+
+-- how many pages hold an address of one of the ranges
+unfoldable pub pages_among : List Range → ℕ
+pages_among ranges = count_by (is_page_among ranges) (range_with_len 0 (2 ^ 20))

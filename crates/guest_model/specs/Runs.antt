@@ -1,5 +1,5 @@
 -- Runs of a step function, whatever its states and ends are.
-use Rattle.std.specs.Prelude.{ℕ, zero, suc, List, [], ◌∷◌, ◌++◌}
+use Rattle.std.specs.Prelude.{◌≡◌, ℕ, zero, suc, List, [], ◌∷◌, ◌++◌}
 
 -- where a run stands: at a state from which it goes on, or ended at its last state
 pub data RunState (S E : Type 0) : Type 0 where
@@ -25,6 +25,17 @@ here f (Ended s e) = []
 unfoldable pub along : {S E A : Type 0} → (S → RunState S E) → (S → List A) → ℕ → RunState S E → List A
 along step f zero x = []
 along step f (suc n) x = along step f n x ++ here f (after step n x)
+
+-- the state at which a run stands, or its last one
+abbrev pub state_of : {S E : Type 0} → RunState S E → S
+state_of (Running s) = s
+state_of (Ended s e) = s
+
+abbrev pub IsRunning : {S E : Type 0} → RunState S E → Type 0
+IsRunning {S} {E} x = (s : S) × (x ≡ Running s)
+
+abbrev pub IsEnded : {S E : Type 0} → RunState S E → Type 0
+IsEnded {S} {E} x = (last : S) × (end : E) × (x ≡ Ended last end)
 
 -- the state to which a step led
 abbrev pub landed : {S E : Type 0} → RunState S E → List S

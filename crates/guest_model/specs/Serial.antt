@@ -1,12 +1,13 @@
 -- The serial run: a machine with the world outside, one step after the other.
-use Rattle.std.specs.Prelude.{ℕ, ◌+◌, ◌==◌, List, [], ◌∷◌, Option, None, Some, if◌then◌else◌}
+use Rattle.std.specs.Prelude.{◌≡◌, ℕ, ◌+◌, ◌==◌, List, [], ◌∷◌, Option, None, Some, if◌then◌else◌}
 use Rattle.std.specs.List.{flat_map}
 use Rattle.rv_isa.specs.Table.{Fields}
+use Rattle.call_record.specs.Record.{CallRecord}
 use Rattle.guest_model.specs.Machine.{Machine, instruction_at}
 use Rattle.guest_model.specs.Effect.{Effect, Next, Call, Fault, effect_of}
 use Rattle.guest_model.specs.Call.{World, Sent, Called, Went, Exits, call_of}
 use Rattle.guest_model.specs.Call as calls
-use Rattle.guest_model.specs.Runs.{RunState, Running, Ended, after, along}
+use Rattle.guest_model.specs.Runs.{RunState, Running, Ended, IsRunning, after, along, state_of}
 
 -- a position of a run: the machine, the world, and the number of calls that went on before it (the record position)
 pub record Position : Type 0 where
@@ -36,6 +37,33 @@ step_of p = step_by p (effect_of p.machine)
 -- where the serial run from p stands after n steps
 abbrev pub run_of : ℕ → Position → RunState Position End
 run_of n p = after step_of n (Running p)
+
+-- position t of the run from p, or its last one where it ended before
+abbrev pub position_at : ℕ → Position → Position
+position_at t p = state_of (run_of t p)
+
+-- the run from p ends so, by the step from position t
+pub record EndsAt (p : Position) (t : ℕ) (end : End) : Type 0 where
+  pub position : IsRunning (run_of t p)
+  pub over : run_of (t + 1) p ≡ Ended (position_at t p) end
+
+-- the record that the step from p leaves, if it is a call that goes on
+abbrev pub entry_by_call : Called → List CallRecord
+entry_by_call (Went next later entry sent) = entry ∷ []
+entry_by_call (Exits status) = []
+entry_by_call (calls.Unsupported number) = []
+
+abbrev pub entry_by : Position → Effect → List CallRecord
+entry_by p (Next next stored) = []
+entry_by p Call = entry_by_call (call_of p.machine p.world)
+entry_by p (Fault kind) = []
+
+unfoldable pub entry_at : Position → List CallRecord
+entry_at p = entry_by p (effect_of p.machine)
+
+-- the records of the first n steps of the run from p
+abbrev pub entries_of : ℕ → Position → List CallRecord
+entries_of n p = along step_of entry_at n (Running p)
 
 -- what the step from p sends, if it is a call that goes on
 abbrev pub sent_by_call : Called → List Sent

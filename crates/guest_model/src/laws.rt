@@ -1,13 +1,13 @@
 //! Laws of the definitions. None of these functions does anything: each carries a law.
-ghost use Rattle.std.specs.Prelude.{◌≡◌, ℕ, ◌+◌, ◌≤◌, List, Some, length};
+ghost use Rattle.std.specs.Prelude.{◌≡◌, ℕ, ◌+◌, ◌≤◌, ◌++◌, List, Some, length};
 ghost use Rattle.call_record.specs.Record.{CallRecord};
 ghost use Rattle.guest_model.specs.Call.{World, Sent, Went, call_of, machine_after};
 ghost use Rattle.guest_model.specs.Calls.{Deed, deed_of, used_ranges};
 ghost use Rattle.guest_model.specs.Machine.{Machine};
-ghost use Rattle.guest_model.specs.Play.{played};
+ghost use Rattle.guest_model.specs.Play.{Script, play_of, played, spot_of};
 ghost use Rattle.guest_model.specs.Range.{Range, total_size};
 ghost use Rattle.guest_model.specs.Runs.{Running, Ended, after};
-ghost use Rattle.guest_model.specs.Serial.{Position, End, run_of, step_of};
+ghost use Rattle.guest_model.specs.Serial.{Position, End, entries_of, run_of, step_of};
 
 use crate::platform::{MOST_READ, MOST_USED};
 
@@ -28,6 +28,13 @@ pub fn record_gives_next()
 pub fn record_is_played()
     ensures { (m next : Machine) (w later : World) (entry : CallRecord) (sent : List Sent)
         → call_of m w ≡ Went next later entry sent → next ≡ played m entry }
+{}
+
+/// A play with the records that a run leaves goes where the run goes.
+pub fn play_follows()
+    ensures { (script : Script) (p q : Position) (n : ℕ) (rest : List CallRecord)
+        → script.first ≡ p.calls → script.entries ≡ entries_of n p ++ rest → run_of n p ≡ Running q
+        → play_of script n (spot_of p) ≡ Running (spot_of q) }
 {}
 
 /// readv uses at most 8 ranges, with at most 65,536 bytes in all.
