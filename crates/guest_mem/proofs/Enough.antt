@@ -29,7 +29,7 @@ fewer true true h = omega arith
 fewer true false h = absurd (true≢false (sym (h refl)))
 
 -- what holds more often counts more
-count_le : (p q : ℕ → Bool) (xs : List ℕ) → ((k : ℕ) → p k ≡ true → q k ≡ true) → count_by p xs ≤ count_by q xs
+pub count_le : (p q : ℕ → Bool) (xs : List ℕ) → ((k : ℕ) → p k ≡ true → q k ≡ true) → count_by p xs ≤ count_by q xs
 count_le p q [] h = omega arith
 count_le p q (x ∷ xs) h = omega (arith, one_more p x xs, one_more q x xs, fewer (p x) (q x) (h x), count_le p q xs h)
 
@@ -102,7 +102,7 @@ in_mapped areas a i page whole mapped none =
       | inr ne ↦ grind (arith, nat_tests)
     ]
 
-page_mapped : (areas : List Area) (a n page : ℕ) → All IsWhole areas → ((i : ℕ) → i < n → is_mapped areas (wrap (a + i)) ≡ true) → is_page_of a n page ≡ true → is_mapped areas (4096 * page) ≡ true
+pub page_mapped : (areas : List Area) (a n page : ℕ) → All IsWhole areas → ((i : ℕ) → i < n → is_mapped areas (wrap (a + i)) ≡ true) → is_page_of a n page ≡ true → is_mapped areas (4096 * page) ≡ true
 unfolding is_page_of
 page_mapped areas a n page whole mapped h =
     elim (cases_Bool (is_mapped areas (4096 * page))) [

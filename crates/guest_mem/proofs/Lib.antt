@@ -14,6 +14,7 @@ pub mod Growing
 pub mod Cut
 pub mod Unmapped
 pub mod Enough
+pub mod Peak
 pub mod Few
 pub mod Ascending
 pub mod Kept

@@ -199,6 +199,7 @@ impl Space {
         ensures written { result ≡ count_marked self.now.frames.written }
         ensures enough { self.now.frames.count ≤ self.now.frames.free + result }
         ensures framed { HasFramesWhereWritten self.now }
+        ensures pages { (length self.now.frames.framed ≡ 2 ^ 20) × (length self.now.frames.written ≡ 2 ^ 20) }
     {
         self.pages.written()
     }

@@ -1,4 +1,4 @@
--- An instruction stores nothing, or at most four bytes.
+-- An instruction stores nothing, or at most four bytes, where it may.
 use Rattle.std.proofs.Common.{◌≡◌, ℕ, ◌%◌, ◌==◌, ◌≤◌, ◌⊎◌, Bool, true, false, cond, List, [], ◌∷◌, refl, subst, inl, inr, arith}
 use Rattle.std.specs.Prelude.{Option, Some, None}
 use Rattle.rv_isa.specs.Decoded.{decoded}
@@ -10,16 +10,17 @@ use Rattle.guest_model.specs.Effect.{Effect, Next, Call, Fault, rs1_value, rs2_v
 use Rattle.guest_model.specs.Machine.{Machine, following}
 use Rattle.guest_model.specs.Range.{Range, range}
 use Rattle.guest_model.specs.Space.{Space, read_number, write_number}
-use Rattle.guest_model.specs.declared.Access.TheVariants.{Read, Execute}
+use Rattle.guest_model.specs.Areas.{all_permitted}
+use Rattle.guest_model.specs.declared.Access.TheVariants.{Read, Write, Execute}
 
--- nothing, or one range of at most four bytes
-abbrev pub IsSmall : List Range → Type 0
-IsSmall stored = (stored ≡ []) ⊎ ((r : Range) × (r.size ≤ 4) × (stored ≡ r ∷ []))
+-- nothing, or one range of at most four bytes, each of which may be written
+abbrev pub IsSmall : Machine → List Range → Type 0
+IsSmall m stored = (stored ≡ []) ⊎ ((r : Range) × (r.size ≤ 4) × (stored ≡ r ∷ []) × (all_permitted Write m.space.areas r.at r.size ≡ true))
 
-abbrev StoresLittle : Effect → Type 0
-StoresLittle (Next next stored) = IsSmall stored
-StoresLittle Call = Unit {0}
-StoresLittle (Fault kind) = Unit {0}
+abbrev StoresLittle : Machine → Effect → Type 0
+StoresLittle m (Next next stored) = IsSmall m stored
+StoresLittle m Call = Unit {0}
+StoresLittle m (Fault kind) = Unit {0}
 
 little_size : (op : Op) → mem_size op ≤ 4
 little_size Lb = omega arith
@@ -32,37 +33,38 @@ little_size Lw = omega arith
 little_size Sw = omega arith
 little_size _ = omega arith
 
-computed : (m : Machine) (i : Fields) (o : Option ℕ) → StoresLittle (writes_some m i o)
+computed : (m : Machine) (i : Fields) (o : Option ℕ) → StoresLittle m (writes_some m i o)
 computed m i None = inl refl
 computed m i (Some value) = inl refl
 
-jumped : (m : Machine) (i : Fields) (to : ℕ) (b : Bool) → StoresLittle (cond b (goes_on (machine_with m i (following m) to)) (Fault misaligned))
+jumped : (m : Machine) (i : Fields) (to : ℕ) (b : Bool) → StoresLittle m (cond b (goes_on (machine_with m i (following m) to)) (Fault misaligned))
 jumped m i to true = inl refl
 jumped m i to false = tt
 
-branched : (m : Machine) (i : Fields) (b c : Bool) → StoresLittle (cond b (cond c (goes_on (machine_at m i (target m i))) (Fault misaligned)) (passes m i))
+branched : (m : Machine) (i : Fields) (b c : Bool) → StoresLittle m (cond b (cond c (goes_on (machine_at m i (target m i))) (Fault misaligned)) (passes m i))
 branched m i true true = inl refl
 branched m i true false = tt
 branched m i false c = inl refl
 
-loaded : (m : Machine) (i : Fields) (o : Option ℕ) → StoresLittle (loads_some m i o)
+loaded : (m : Machine) (i : Fields) (o : Option ℕ) → StoresLittle m (loads_some m i o)
 loaded m i None = tt
 loaded m i (Some n) = inl refl
 
-stored : (m : Machine) (i : Fields) (o : Option Space) → StoresLittle (stores_some m i o)
-stored m i None = tt
-stored m i (Some s) = inr (range (address m i) (mem_size i.op), little_size i.op, refl)
+stored : (m : Machine) (i : Fields) (s : Space) (may : Bool) → all_permitted Write m.space.areas (address m i) (mem_size i.op) ≡ may → StoresLittle m (stores_some m i (cond may (Some s) None))
+stored m i s true may = inr (range (address m i) (mem_size i.op), little_size i.op, refl, may)
+stored m i s false may = tt
 
-by_branch : (m : Machine) (i : Fields) → StoresLittle (branches m i)
+by_branch : (m : Machine) (i : Fields) → StoresLittle m (branches m i)
 by_branch m i = branched m i (is_taken i.op (rs1_value m i) (rs2_value m i)) (target m i % 4 == 0)
 
-by_load : (m : Machine) (i : Fields) → StoresLittle (loads m i)
+by_load : (m : Machine) (i : Fields) → StoresLittle m (loads m i)
 by_load m i = loaded m i (read_number Read m.space (address m i) (mem_size i.op))
 
-by_store : (m : Machine) (i : Fields) → StoresLittle (stores m i)
-by_store m i = stored m i (write_number m.space (address m i) (mem_size i.op) (rs2_value m i))
+by_store : (m : Machine) (i : Fields) → StoresLittle m (stores m i)
+unfolding write_number
+by_store m i = stored m i _ (all_permitted Write m.space.areas (address m i) (mem_size i.op)) refl
 
-by_row : (op : Op) (m : Machine) (i : Fields) → StoresLittle (effect_by op m i)
+by_row : (op : Op) (m : Machine) (i : Fields) → StoresLittle m (effect_by op m i)
 by_row Lui m i = inl refl
 by_row Auipc m i = inl refl
 by_row Jal m i = jumped m i _ _
@@ -86,17 +88,17 @@ by_row Ecall m i = tt
 by_row Ebreak m i = tt
 by_row _ m i = computed m i _
 
-by_instruction : (m : Machine) (i : Option Fields) → StoresLittle (effect_of_instruction m i)
+by_instruction : (m : Machine) (i : Option Fields) → StoresLittle m (effect_of_instruction m i)
 by_instruction m None = tt
 by_instruction m (Some i) = by_row i.op m i
 
-by_word : (m : Machine) (word : Option ℕ) → StoresLittle (effect_of_word m word)
+by_word : (m : Machine) (word : Option ℕ) → StoresLittle m (effect_of_word m word)
 by_word m None = tt
 by_word m (Some word) = by_instruction m (decoded word)
 
-by_effect : (m : Machine) → StoresLittle (effect_of m)
+by_effect : (m : Machine) → StoresLittle m (effect_of m)
 unfolding effect_of
 by_effect m = by_word m (read_number Execute m.space m.pc 4)
 
-pub stored_is_small : (m next : Machine) (stored : List Range) → effect_of m ≡ Next next stored → IsSmall stored
-stored_is_small m next ranges is = subst StoresLittle is (by_effect m)
+pub stored_is_small : (m next : Machine) (stored : List Range) → effect_of m ≡ Next next stored → IsSmall m stored
+stored_is_small m next ranges is = subst (StoresLittle m) is (by_effect m)
