@@ -1,0 +1,47 @@
+-- What a step of a play, and the tests behind it, answer.
+use Rattle.std.specs.Prelude.{◌≡◌, ℕ, ◌+◌, ◌^◌, ◌<◌, ◌⊎◌, Bool, true, false}
+use Rattle.guest_model.specs.Play.{Halt, Script, Spot, play_step, spot, written_at}
+use Rattle.guest_model.specs.Runs.{RunState, Running, Ended}
+use Rattle.guest_model.specs.Tests.{HitCounts, PassesQuick, PassesRegisters, PassesStack, PassesWhole, SignatureFields, signature_of}
+use Rattle.guest_mem.specs.Frames.{Frames, marked_for_all}
+use Rattle.boundary_verify.specs.declared.job.Boundary.{Boundary}
+use Rattle.boundary_verify.specs.declared.job.Boundary.TheVariants.{At, End}
+
+-- a play ended at this spot
+abbrev pub HaltsAt : Spot → RunState Spot Halt → Type 0
+HaltsAt s (Running other) = ⊥
+HaltsAt s (Ended last halt) = last ≡ s
+
+-- a step of a play went on to a new spot, or ended the play where it was
+abbrev pub Plays : Script → Spot → Bool → Spot → Type 0
+Plays script old true new = play_step script old ≡ Running new
+Plays script old false new = HaltsAt old (play_step script old) × (new ≡ old)
+
+-- the pages that the step wrote are marked, and the number of frames is as before
+pub record MarksWritten (script : Script) (s : Spot) (old new : Frames) : Type 0 where
+  pub written : new.written ≡ marked_for_all old.written (written_at script s)
+  pub count : new.count ≡ old.count
+
+-- one more is counted where it passes
+abbrev pub CountsOne : Type 0 → ℕ → ℕ → Type 0
+CountsOne P old new = (P × (new ≡ old + 1)) ⊎ ((P → ⊥) × (new ≡ old))
+
+-- the position was counted at each test that it passes
+pub record CountsAt (target s : Spot) (old new : HitCounts) : Type 0 where
+  pub quick : CountsOne (PassesQuick target s) old.quick new.quick
+  pub registers : CountsOne (PassesRegisters target s) old.registers new.registers
+  pub stack : CountsOne (PassesStack target s) old.stack new.stack
+  pub whole : CountsOne (PassesWhole target s) old.whole new.whole
+
+-- the signature is that of the boundary, if there is one
+abbrev pub IsSignatureOf : Boundary → SignatureFields → Type 0
+IsSignatureOf (At state position) s = s ≡ signature_of (spot state.machine position)
+IsSignatureOf End s = ⊥
+
+abbrev pub CountsBy : Boundary → Spot → HitCounts → HitCounts → Type 0
+CountsBy (At state position) s old new = CountsAt (spot state.machine position) s old new
+CountsBy End s old new = ⊥
+
+-- the counts are far from the end of their type
+abbrev pub HasRoom : HitCounts → Type 0
+HasRoom hits = (hits.quick < 2 ^ 63) × ((hits.registers < 2 ^ 63) × ((hits.stack < 2 ^ 63) × (hits.whole < 2 ^ 63)))
