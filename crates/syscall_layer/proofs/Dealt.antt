@@ -7,10 +7,8 @@ use Rattle.std.proofs.Math.Seq.{drop-cons, take-suc-set}
 use Rattle.std.proofs.lemmas.Bool.{cases_lt, and_parts}
 use Rattle.std.proofs.lemmas.Bool.Decides.{nat_tests}
 use Rattle.std.proofs.lemmas.List.{append-nil, take_all, drop_all, drop-drop, length-take, drop-set-lt}
-use Rattle.std.proofs.lemmas.List.Sums.{fold_more}
 use Rattle.call_record.specs.Record.{Stored}
-use Rattle.guest_model.specs.Bytes.{Bytes, put_bytes}
-use Rattle.guest_model.specs.Call.{filled, store_all, stored_at}
+use Rattle.guest_model.specs.Call.{filled, stored_at}
 use Rattle.guest_model.specs.Range.{Range}
 use Rattle.syscall_layer.specs.Serve.{range_of}
 
@@ -78,14 +76,3 @@ all_dealt all now bytes used done dealt (inl end) =
 all_dealt all now bytes used done dealt (inr end) =
     sym (append-nil (take used now))
     ∙ (ap (λ (xs : List Stored). take used now ++ xs) (sym (ap (filled (map range_of (drop used all))) (drop_all done bytes end) ∙ none_filled (map range_of (drop used all)))) ∙ dealt.so_far)
-
--- the writes from write k on
-pub next_write : (ws : List Stored) (k : ℕ) (w : Stored) → k < length ws → get_or ws k w ≡ w → drop k ws ≡ w ∷ drop (k + 1) ws
-next_write ws k w lt is =
-    let one : suc k ≡ k + 1 = omega arith in
-    drop-cons ws k w lt ∙ (ap (λ (o : Stored). o ∷ drop (suc k) ws) is ∙ ap (λ (i : ℕ). w ∷ drop i ws) one)
-
--- what the writes up to write k and with it store
-pub stored_more : (m : Bytes) (ws : List Stored) (k : ℕ) (w : Stored) → k < length ws → get_or ws k w ≡ w → store_all m (take (k + 1) ws) ≡ put_bytes (store_all m (take k ws)) w.at w.bytes
-stored_more m ws k w lt is =
-    fold_more (λ (bytes : Bytes) (s : Stored). put_bytes bytes s.at s.bytes) m ws k w lt ∙ ap (λ (s : Stored). put_bytes (store_all m (take k ws)) s.at s.bytes) is

@@ -35,19 +35,19 @@ nothing_sent t now w before is = is ∙ ap (told_after t w) (sym (append-nil bef
 
 -- a call that only answers
 pub answered : (deed : Deed) (answer : ℕ) (t : Told) (f : Faults) (old new : GuestState) (s : Served) → deed ≡ Answers answer → s ≡ served.Went (record_of old.machine answer [])
-    → new.machine ≡ finished old.machine answer → new.frames ≡ old.frames → IsServed (Some deed) t t f f (Ok s) old new
-answered deed answer t f old new s does is next same =
+    → new.machine ≡ finished old.machine answer → new.frames ≡ old.frames → new.origin ≡ old.origin → IsServed (Some deed) t t f f (Ok s) old new
+answered deed answer t f old new s does is next same came =
     subst (λ (d : Deed). IsServed (Some d) t t f f (Ok s) old new) (sym does)
     (subst (λ (k : Served). IsServed (Some (Answers answer)) t t f f (Ok k) old new) (sym is)
     (record {
-      answer = record { record_is = refl; machine_is = next; frames = takes_none old.frames new.frames same };
+      answer = record { record_is = refl; machine_is = next; frames = takes_none old.frames new.frames same; origin = came };
       told = λ at w before here. (next, refl, nothing_sent at t w before here);
       faults = refl;
     }))
 
 -- one that fails a test
 pub failed : (deed : Deed) (number answer : ℕ) (t : Told) (f : Faults) (old new : GuestState) (s : Served) → deed ≡ Answers (failure number) → answer ≡ failure number → s ≡ served.Went (record_of old.machine answer [])
-    → new.machine ≡ finished old.machine answer → new.frames ≡ old.frames → IsServed (Some deed) t t f f (Ok s) old new
+    → new.machine ≡ finished old.machine answer → new.frames ≡ old.frames → new.origin ≡ old.origin → IsServed (Some deed) t t f f (Ok s) old new
 failed deed number answer t f old new s does is = answered deed answer t f old new s (does ∙ ap (λ (n : ℕ). Answers n) (sym is))
 
 -- one that finds no memory
@@ -68,7 +68,7 @@ pub changed_areas : (changed : Changed) (t : Told) (f : Faults) (old new : Guest
 changed_areas changed t f old new s changes =
     subst (λ (k : Served). IsServed (Some (Maps changed)) t t f f (Ok k) old new) (sym changes.record_is)
     (record {
-      answer = record { record_is = refl; machine_is = changes.machine_is; frames = (changes.written, changes.count) };
+      answer = record { record_is = refl; machine_is = changes.machine_is; frames = (changes.written, changes.count); origin = changes.origin };
       told = λ at w before here. (changes.machine_is, refl, nothing_sent at t w before here);
       faults = refl;
     })
@@ -83,12 +83,12 @@ unsupported number t f g is = record { answer = (ap (λ (n : ℕ). Err (faults.U
 
 -- a call that sends, and what it sends went out
 pub sent_all : (deed : Deed) (port : Port) (number answer : ℕ) (bytes : List ℕ) (t now : Told) (f g : Faults) (old new : GuestState) (s : Served) → deed ≡ Sends number bytes answer → port_number port ≡ number → port ≢ Report
-    → s ≡ served.Went (record_of old.machine answer []) → new.machine ≡ finished old.machine answer → new.frames ≡ old.frames → now ≡ sent port bytes t → g ≡ f → IsServed (Some deed) t now f g (Ok s) old new
-sent_all deed port number answer bytes t now f g old new s does names guests is next same told still =
+    → s ≡ served.Went (record_of old.machine answer []) → new.machine ≡ finished old.machine answer → new.frames ≡ old.frames → new.origin ≡ old.origin → now ≡ sent port bytes t → g ≡ f → IsServed (Some deed) t now f g (Ok s) old new
+sent_all deed port number answer bytes t now f g old new s does names guests is next same came told still =
     subst (λ (d : Deed). IsServed (Some d) t now f g (Ok s) old new) (sym does)
     (subst (λ (k : Served). IsServed (Some (Sends number bytes answer)) t now f g (Ok k) old new) (sym is)
     (record {
-      answer = record { record_is = refl; machine_is = next; frames = takes_none old.frames new.frames same };
+      answer = record { record_is = refl; machine_is = next; frames = takes_none old.frames new.frames same; origin = came };
       told = λ at w before here. (next, refl, told ∙ ap (sent port bytes) here ∙ told_sent port number bytes at w before names guests);
       faults = still;
     }))
@@ -112,13 +112,13 @@ sent_part deed port number answer bytes t now f g old does names guests part fau
 pub taken : (into : List Range) (count : ℕ) (writes : List Stored) (t now : Told) (f g : Faults) (old new : GuestState) (s : Served) → FillsRanges into t count writes → now ≡ input_taken (total_size into) t → g ≡ f
     → s ≡ served.Went (record_of old.machine count writes)
     → new.machine ≡ finished (with_space old.machine (with_bytes old.machine.space (store_all old.machine.space.bytes writes))) count
-    → TakesFrames old.frames new.frames (map range_of writes) → IsServed (Some (Takes into)) t now f g (Ok s) old new
-taken into count writes t now f g old new s fills told same is next frames =
+    → TakesFrames old.frames new.frames (map range_of writes) → new.origin ≡ old.origin → IsServed (Some (Takes into)) t now f g (Ok s) old new
+taken into count writes t now f g old new s fills told same is next frames came =
     let known : record_of old.machine count writes ≡ record_of old.machine (length fills.bytes) (filled into fills.bytes) =
     ap (λ (k : ℕ). record_of old.machine k writes) fills.counted ∙ ap (record_of old.machine (length fills.bytes)) fills.fills in
     subst (λ (k : Served). IsServed (Some (Takes into)) t now f g (Ok k) old new) (sym is)
     (record {
-      answer = record { record_is = (fills.bytes, fills.few, known); machine_is = next; frames = frames };
+      answer = record { record_is = (fills.bytes, fills.few, known); machine_is = next; frames = frames; origin = came };
       told = λ at w before here.
           let first = fills.taken w.input (ap (λ (k : Told). k.input) here) in
           let entry = known ∙ ap (λ (bs : List ℕ). record_of old.machine (length bs) (filled into bs)) first in (
@@ -148,13 +148,13 @@ time_fills at moment = refl
 pub told_time : (deed : Deed) (at moment : ℕ) (writes : List Stored) (t now : Told) (f g : Faults) (old new : GuestState) (s : Served) → deed ≡ Tells at → writes ≡ stored_at at (time_bytes moment)
     → WhereTold t.moments (λ left. moment ≡ slice_index left 0) → now ≡ moment_taken t → g ≡ f → s ≡ served.Went (record_of old.machine 0 writes)
     → new.machine ≡ finished (with_space old.machine (with_bytes old.machine.space (store_all old.machine.space.bytes writes))) 0
-    → TakesFrames old.frames new.frames (map range_of writes) → IsServed (Some deed) t now f g (Ok s) old new
-told_time deed at moment writes t now f g old new s does writes_are first told still is next frames =
+    → TakesFrames old.frames new.frames (map range_of writes) → new.origin ≡ old.origin → IsServed (Some deed) t now f g (Ok s) old new
+told_time deed at moment writes t now f g old new s does writes_are first told still is next frames came =
     let known : record_of old.machine 0 writes ≡ record_of old.machine 0 (stored_at at (time_bytes moment)) = ap (record_of old.machine 0) writes_are in
     subst (λ (d : Deed). IsServed (Some d) t now f g (Ok s) old new) (sym does)
     (subst (λ (k : Served). IsServed (Some (Tells at)) t now f g (Ok k) old new) (sym is)
     (record {
-      answer = record { record_is = (moment, known); machine_is = next; frames = frames };
+      answer = record { record_is = (moment, known); machine_is = next; frames = frames; origin = came };
       told = λ from w before here.
           let same : moment ≡ moment_of w = first w.moments (ap (λ (k : Told). k.moments) here) in
           let entry = known ∙ ap (λ (n : ℕ). record_of old.machine 0 (stored_at at (time_bytes n))) same in (

@@ -5,6 +5,6 @@ pub mod Dealt
 pub mod Used
 pub mod Received
 pub mod Permitted
-pub mod Finished
 pub mod Rows
 pub mod Deeds
+pub mod Leaving

@@ -15,7 +15,7 @@ use Rattle.guest_mem.proofs.Permitted.{permitted_at, all_permitted_from}
 use Rattle.syscall_layer.proofs.Received.{filled_all}
 
 -- the front of a range
-front_permitted : (access : Access) (areas : List Area) (a n k : ℕ) → k ≤ n → is_range_permitted access areas a n ≡ true → is_range_permitted access areas a k ≡ true
+pub front_permitted : (access : Access) (areas : List Area) (a n k : ℕ) → k ≤ n → is_range_permitted access areas a n ≡ true → is_range_permitted access areas a k ≡ true
 unfolding is_range_permitted
 front_permitted access areas a n k le h =
     let parts = and_parts (nat_le (a + n) (2 ^ 32)) (all_permitted access areas a n) h in

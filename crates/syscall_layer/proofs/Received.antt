@@ -89,28 +89,6 @@ pub filled_has : (f : Frames) (rs : List Range) (bytes : List ℕ) → HasAllFra
 filled_has f rs bytes (inl all) = inl all
 filled_has f rs bytes (inr few) = inr (omega (arith, few, fewer_frames f.framed rs bytes))
 
-taken_next : (ws : List Stored) (k : ℕ) (w : Stored) → k < length ws → get_or ws k w ≡ w → map range_of (take (k + 1) ws) ≡ map range_of (take k ws) ++ range w.at (length w.bytes) ∷ []
-taken_next ws k w lt is =
-    ap (map range_of) (take_more ws k w lt ∙ ap (λ (s : Stored). take k ws ++ s ∷ []) is) ∙ map-append range_of (take k ws) (w ∷ [])
-
-split_at : (ws : List Stored) (k : ℕ) (w : Stored) → k < length ws → get_or ws k w ≡ w
-    → map range_of ws ≡ (map range_of (take k ws) ++ range w.at (length w.bytes) ∷ []) ++ map range_of (drop (k + 1) ws)
-split_at ws k w lt is =
-    ap (map range_of) (sym (take-append-drop (k + 1) ws)) ∙ map-append range_of (take (k + 1) ws) (drop (k + 1) ws)
-    ∙ ap (λ (rs : List Range). rs ++ map range_of (drop (k + 1) ws)) (taken_next ws k w lt is)
-
--- the frames of the next write, where the others suffice for all
-pub has_next : (old now : Frames) (ws : List Stored) (k : ℕ) (w : Stored) → k < length ws → get_or ws k w ≡ w → TakesFrames old now (map range_of (take k ws)) → HasAllFrames old (map range_of ws)
-    → HasAllFrames now (range w.at (length w.bytes) ∷ [])
-has_next old now ws k w lt is takes has =
-    let whole : HasAllFrames old ((map range_of (take k ws) ++ range w.at (length w.bytes) ∷ []) ++ map range_of (drop (k + 1) ws)) = subst (HasAllFrames old) (split_at ws k w lt is) has in
-    has_rest old now (map range_of (take k ws)) (range w.at (length w.bytes) ∷ []) takes (has_first old _ _ whole)
-
-pub takes_next : (old now new : Frames) (ws : List Stored) (k : ℕ) (w : Stored) → k < length ws → get_or ws k w ≡ w → TakesFrames old now (map range_of (take k ws))
-    → TakesFrames now new (range w.at (length w.bytes) ∷ []) → TakesFrames old new (map range_of (take (k + 1) ws))
-takes_next old now new ws k w lt is takes here =
-    subst (TakesFrames old new) (sym (taken_next ws k w lt is)) (takes_more old now new (map range_of (take k ws)) (range w.at (length w.bytes) ∷ []) takes here)
-
 -- a buffer that is filled whole
 pub filled_whole : (front items out : List ℕ) (len : ℕ) → out ≡ take len (front ++ drop (length front) items) → length front ≡ len → out ≡ front
 filled_whole front items out len is size = is ∙ (take-append-le len front (drop (length front) items) (omega arith) ∙ take_all len front (omega arith))

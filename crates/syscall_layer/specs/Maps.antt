@@ -12,3 +12,4 @@ pub record ChangesAreas (changed : Changed) (old new : GuestState) (answer : Ser
   pub machine_is : new.machine ≡ finished (with_space old.machine changed.space) changed.answer
   pub written : new.frames.written ≡ old.frames.written
   pub count : new.frames.count ≡ old.frames.count
+  pub origin : new.origin ≡ old.origin

@@ -1,5 +1,5 @@
 -- What serving a call answers, and what it does to the guest and to what a host tells.
-use Rattle.std.specs.Prelude.{◌≡◌, ◌≢◌, ℕ, ◌<◌, ◌≤◌, List, [], ◌∷◌, ◌++◌, length, map, Option, None, Some, Result, Ok, Err}
+use Rattle.std.specs.Prelude.{◌≡◌, ◌≢◌, ℕ, ◌<◌, ◌≤◌, List, [], ◌∷◌, ◌++◌, true, length, Option, None, Some, Result, Ok, Err}
 use Rattle.call_record.specs.Record.{CallRecord, Stored}
 use Rattle.sp_host.specs.Told.{Told, appended, PartSent}
 use Rattle.sp_host.specs.Faults.{Faults, Source, Input, To, CausedIn}
@@ -8,10 +8,12 @@ use Rattle.sp_host.specs.declared.host.Port.TheVariants.{Out, Err as StandardErr
 use Rattle.guest_model.specs.Call.{World, Sent, Called, Went, Exits, call_with, filled, input_after, machine_after, record_of, stored_at, time_bytes}
 use Rattle.guest_model.specs.Call as calls
 use Rattle.guest_model.specs.Calls.{Deed, Answers, Takes, Sends, Tells, Maps, Ends, call_number}
+use Rattle.guest_model.specs.Fits.{fits}
 use Rattle.guest_model.specs.Machine.{Machine}
-use Rattle.guest_model.specs.Range.{Range, range, total_size}
+use Rattle.guest_model.specs.Play.{played}
+use Rattle.guest_model.specs.Range.{Range, total_size}
 use Rattle.guest_model.specs.Serial.{bytes_to}
-use Rattle.guest_mem.specs.Frames.{Frames, TakesFrames}
+pub use Rattle.call_playback.specs.Stores.{FramesAfter, range_of}
 use Rattle.rv_machine.specs.Guest.{GuestState}
 use Rattle.syscall_layer.specs.declared.fault.CallFault.{CallFault}
 use Rattle.syscall_layer.specs.declared.fault.CallFault.TheVariants as faults
@@ -44,21 +46,13 @@ IsRecordOf (Tells at) m entry = (moment : ℕ) × (entry ≡ record_of m 0 (stor
 IsRecordOf (Maps changed) m entry = entry ≡ record_of m changed.answer []
 IsRecordOf (Ends status) m entry = ⊥
 
--- where bytes were stored
-abbrev pub range_of : Stored → Range
-range_of s = range s.at (length s.bytes)
-
--- The frames after a call that does this and stored so: it took those of what it stored. Where it changed the areas, no
--- page was written, and those of pages that are mapped no longer are free.
-abbrev pub FramesAfter : Deed → List Stored → Frames → Frames → Type 0
-FramesAfter (Maps changed) stored old new = (new.written ≡ old.written) × (new.count ≡ old.count)
-FramesAfter deed stored old new = TakesFrames old new (map range_of stored)
-
 -- The guest went on behind a call that does this and left this record.
 pub record GoesOn (deed : Deed) (entry : CallRecord) (old new : GuestState) : Type 0 where
   pub record_is : IsRecordOf deed old.machine entry
   pub machine_is : new.machine ≡ machine_after old.machine deed entry
   pub frames : FramesAfter deed entry.stored old.frames new.frames
+  -- the state that the memory came from stays
+  pub origin : new.origin ≡ old.origin
 
 -- a call that takes memory
 abbrev pub TakesMemory : Deed → Type 0
@@ -91,6 +85,17 @@ AnswersDeed deed (Err faults.NoMemory) old new = TakesMemory deed × (new ≡ ol
 abbrev pub AnswersCall : Option Deed → Result Served CallFault → GuestState → GuestState → Type 0
 AnswersCall None result old new = (result ≡ Err (faults.Unsupported (call_number old.machine))) × (new ≡ old)
 AnswersCall (Some deed) result old new = AnswersDeed deed result old new
+
+-- The record fits the machine that stands at its call, and a play by it leaves this machine.
+pub record FitsAndPlays (m next : Machine) (entry : CallRecord) : Type 0 where
+  pub fits : fits m entry ≡ true
+  pub next_is : next ≡ played m entry
+
+-- what holds of the record of a call that went on, for every host
+abbrev pub LeavesPlayable : Result Served CallFault → Machine → Machine → Type 0
+LeavesPlayable (Ok (served.Went entry)) m next = FitsAndPlays m next entry
+LeavesPlayable (Ok (served.Exit status)) m next = Unit {0}
+LeavesPlayable (Err fault) m next = Unit {0}
 
 -- A beginning of the input left was taken, shorter than the call asks for, and nothing else changed.
 pub record PartTaken (t : Told) (w : World) (before : List Sent) (asked : ℕ) (new : Told) : Type 0 where

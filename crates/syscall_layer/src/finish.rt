@@ -11,7 +11,6 @@ ghost use Rattle.syscall_layer.specs.declared.server.Served.TheVariants as serve
 
 use crate::server::Served;
 use call_record::{Record, Write};
-use guest_mem::Space;
 use rv_machine::Guest;
 use std::alloc::Global;
 
@@ -20,6 +19,7 @@ pub(crate) fn finish(alloc: Global, guest: &mut Guest, answer: u32) -> Served
     ensures served { result ≡ served.Went (record_of guest.old.machine answer []) }
     ensures machine { guest.new.machine ≡ finished guest.old.machine answer }
     ensures frames { guest.new.frames ≡ guest.old.frames }
+    ensures origin { guest.new.origin ≡ guest.old.origin }
 {
     let number = guest.reg(17);
     guest.finish_call(answer);
@@ -28,20 +28,6 @@ pub(crate) fn finish(alloc: Global, guest: &mut Guest, answer: u32) -> Served
         result: answer,
         writes: Vec::new(alloc),
     })
-}
-
-// Puts bytes in memory, one write after the other.
-fn put_all(space: &mut Space, writes: &[Write])
-    requires writable { list_all (λ s. is_range_permitted Access.Write space.old.space.areas s.at
-        (length s.bytes)) writes.now ≡ true }
-    requires frames { HasAllFrames space.old.frames (map range_of writes.now) }
-    ensures space { space.new.space
-        ≡ with_bytes space.old.space (store_all space.old.space.bytes writes.now) }
-    ensures frames { TakesFrames space.old.frames space.new.frames (map range_of writes.now) }
-{
-    for write in writes {
-        space.put(write.at, &write.bytes);
-    }
 }
 
 /// Goes on behind a call that stores bytes, with its result.
@@ -54,10 +40,10 @@ pub(crate) fn finish_storing(guest: &mut Guest, answer: u32, writes: Vec<Write>)
     ensures machine { guest.new.machine ≡ finished (with_space guest.old.machine
         (with_bytes guest.old.machine.space (store_all guest.old.machine.space.bytes writes.items))) answer }
     ensures frames { TakesFrames guest.old.frames guest.new.frames (map range_of writes.items) }
+    ensures origin { guest.new.origin ≡ guest.old.origin }
 {
     let number = guest.reg(17);
-    guest.finish_call(answer);
-    put_all(guest.space_mut(), &writes);
+    call_playback::finish_storing(guest, answer, &writes);
     Served::Went(Record {
         number,
         result: answer,

@@ -5,6 +5,7 @@ ghost use Rattle.syscall_layer.specs.Maps.{ChangesAreas};
 
 use crate::finish::finish;
 use crate::server::Served;
+use call_playback::{add_map, grow_heap, remove_map};
 use rv_machine::Guest;
 use std::alloc::Global;
 
@@ -13,8 +14,7 @@ pub(crate) fn brk_call(alloc: Global, guest: &mut Guest) -> Served
     ensures { ChangesAreas (grow_of guest.old.machine.space (argument guest.old.machine 0))
         guest.old guest.new result }
 {
-    let to = guest.reg(10);
-    let answer = guest.space_mut().grow_break(to);
+    let answer = grow_heap(guest);
     finish(alloc, guest, answer)
 }
 
@@ -23,10 +23,7 @@ pub(crate) fn mmap2_call(alloc: Global, guest: &mut Guest) -> Served
     ensures { ChangesAreas (map_of guest.old.machine.space (argument guest.old.machine 1)
         (argument guest.old.machine 2) (argument guest.old.machine 3)) guest.old guest.new result }
 {
-    let len = guest.reg(11);
-    let prot = guest.reg(12);
-    let flags = guest.reg(13);
-    let answer = guest.space_mut().map(len, prot, flags);
+    let answer = add_map(guest);
     finish(alloc, guest, answer)
 }
 
@@ -35,8 +32,6 @@ pub(crate) fn munmap_call(alloc: Global, guest: &mut Guest) -> Served
     ensures { ChangesAreas (unmap_of guest.old.machine.space (argument guest.old.machine 0)
         (argument guest.old.machine 1)) guest.old guest.new result }
 {
-    let at = guest.reg(10);
-    let len = guest.reg(11);
-    let answer = guest.space_mut().unmap(at, len);
+    let answer = remove_map(guest);
     finish(alloc, guest, answer)
 }

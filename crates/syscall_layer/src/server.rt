@@ -5,7 +5,7 @@ ghost use Rattle.guest_model.specs.Calls.{deed_of, row_of, storable};
 ghost use Rattle.guest_model.specs.Effect.{Effect, effect_of};
 ghost use Rattle.guest_model.specs.Written.{written_by};
 ghost use Rattle.guest_mem.specs.Frames.{HasAllFrames};
-ghost use Rattle.syscall_layer.specs.Serve.{AnswersCall, IsServed, TellsDeed, source_of};
+ghost use Rattle.syscall_layer.specs.Serve.{AnswersCall, IsServed, LeavesPlayable, TellsDeed, source_of};
 
 use crate::clock::clock_call;
 use crate::fault::CallFault;
@@ -42,6 +42,9 @@ pub fn serve<H: Host>(alloc: Global, guest: &mut Guest, host: &mut H) -> Result<
     // Whatever the host is: the record and the guest after it, and the cause of each fault.
     ensures answer { AnswersCall (deed_of guest.old.machine) result guest.old guest.new }
     ensures faults { CausedIn source_of (H.faults host.old) (H.faults host.new) result }
+
+    // The record fits the guest as it stood at the call, and the guest is as a play by it leaves it.
+    ensures playable { LeavesPlayable result guest.old.machine guest.new.machine }
 
     // Where the host tells: the answer is that of the call's row, and the outside changed by
     // exactly that call.

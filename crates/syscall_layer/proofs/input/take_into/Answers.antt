@@ -1,9 +1,8 @@
-use Rattle.std.proofs.Common.{◌∙◌, ap, sym, subst, List, map}
+use Rattle.std.proofs.Common.{sym, subst, List, map}
 use Rattle.call_record.specs.Record.{Stored}
 use Rattle.guest_mem.specs.Frames.{HasAllFrames}
-use Rattle.rv_machine.specs.Guest.{GuestState}
 use Rattle.syscall_layer.specs.Serve.{range_of}
-use Rattle.syscall_layer.proofs.Deeds.{taken, taken_in_part}
+use Rattle.syscall_layer.proofs.Deeds.{taken}
 use Rattle.syscall_layer.proofs.Permitted.{filled_writable}
 use Rattle.syscall_layer.proofs.Received.{filled_has}
 use Rattle.syscall_layer.proofs.input.take_into.Goals as goal
@@ -22,4 +21,4 @@ finish_storing-requires-clause-frames g c =
 pub returns : goal.returns
 returns g c =
     taken c.args.ranges.now c.in_ok-taken.taken.count c.in_ok-taken.taken.writes.items (g.H.Host.told c.args.host.now) (g.H.Host.told c.take_input.new.host) _ _ c.args.guest.now c.finish_storing.new.guest c.finish_storing.result
-    c.in_ok-taken.ensures.fills c.in_ok-taken.ensures.told c.in_ok-taken.ensures.faults c.finish_storing.ensures.served c.finish_storing.ensures.machine c.finish_storing.ensures.frames
+    c.in_ok-taken.ensures.fills c.in_ok-taken.ensures.told c.in_ok-taken.ensures.faults c.finish_storing.ensures.served c.finish_storing.ensures.machine c.finish_storing.ensures.frames c.finish_storing.ensures.origin

@@ -7,6 +7,7 @@ use Rattle.rv_machine.specs.Guest.{GuestState}
 use Rattle.syscall_layer.specs.Serve.{AnswersCall, TellsDeed}
 use Rattle.syscall_layer.specs.declared.fault.CallFault.TheVariants as faults
 use Rattle.syscall_layer.proofs.Deeds.{unsupported}
+use Rattle.syscall_layer.proofs.Leaving.{leaves_playable}
 use Rattle.syscall_layer.proofs.Rows.{deed_is, no_deed, written_is}
 use Rattle.syscall_layer.proofs.server.serve.Goals as goal
 
@@ -27,6 +28,12 @@ returns-in-Some-clause-told g c =
     let old = c.args.guest.now in
     let is = ap call_numbered (sym c.reg-number.ensures) ∙ (sym c.numbered.ensures ∙ c.in-Some.is) in
     subst (λ (d : Option Deed). TellsDeed d (g.H.Host.told c.args.host.now) c.serve_row.result old c.serve_row.new.guest (g.H.Host.told c.serve_row.new.host)) (sym (deed_is old.machine c.in-Some.call is)) c.serve_row.ensures.told
+
+pub returns-in-Some-clause-playable : goal.returns-in-Some-clause-playable
+returns-in-Some-clause-playable g c =
+    let old = c.args.guest.now in
+    let is = ap call_numbered (sym c.reg-number.ensures) ∙ (sym c.numbered.ensures ∙ c.in-Some.is) in
+    leaves_playable c.in-Some.call c.serve_row.result old c.serve_row.new.guest is c.serve_row.ensures.answer
 
 pub returns-in-None-clause-answer : goal.returns-in-None-clause-answer
 returns-in-None-clause-answer g c =

@@ -1,4 +1,4 @@
-use Rattle.std.proofs.Common.{◌≡◌, ◌+◌, ◌∙◌, ap, sym, refl, subst, List, ℕ, [], ◌∷◌, length, get_or, map, take}
+use Rattle.std.proofs.Common.{◌≡◌, ◌∙◌, ap, sym, refl, subst, List, ℕ, [], ◌∷◌, length, get_or, take}
 use Rattle.call_record.specs.Record.{Stored}
 use Rattle.guest_model.specs.Bytes.{put_bytes}
 use Rattle.guest_model.specs.Call.{store_all}
@@ -6,13 +6,11 @@ use Rattle.guest_model.specs.Range.{range}
 use Rattle.guest_model.specs.Space.{Space, with_bytes}
 use Rattle.guest_mem.specs.Frames.{HasAllFrames, TakesFrames}
 use Rattle.guest_mem.proofs.Ranges.{takes_none}
-use Rattle.syscall_layer.specs.Serve.{range_of}
-use Rattle.syscall_layer.proofs.Dealt.{stored_more}
-use Rattle.syscall_layer.proofs.Received.{has_next, takes_next}
-use Rattle.syscall_layer.proofs.finish.put_all.Goals as goal
+use Rattle.call_playback.proofs.Stores.{has_next, stored_more, takes_next}
+use Rattle.call_playback.proofs.storing.put_all.Goals as goal
 
 pub loop-write-init : goal.loop-write-init
-loop-write-init c = record { space = refl; frames = takes_none c.args.space.now.frames c.args.space.now.frames refl }
+loop-write-init c = record { space = refl; frames = takes_none c.args.space.now.frames c.args.space.now.frames refl; origin = refl }
 
 pub put-requires-clause-frames : goal.put-requires-clause-frames
 put-requires-clause-frames c =
@@ -36,4 +34,5 @@ loop-write-preserved c =
       frames =
           takes_next c.args.space.now.frames c.loop-write.space.frames c.put.new.self.frames c.args.writes.now k w c.loop-write-test.true here c.loop-write.invariant.frames
           (subst (λ (xs : List ℕ). TakesFrames c.loop-write.space.frames c.put.new.self.frames (range w.at (length xs) ∷ [])) c.deref.ensures.value c.put.ensures.frames);
+      origin = c.put.ensures.origin ∙ c.loop-write.invariant.origin;
     }

@@ -1,5 +1,5 @@
 -- The machine behind a call.
-use Rattle.std.proofs.Common.{◌≡◌, ℕ, List, refl, ap, ◌∙◌}
+use Rattle.std.proofs.Common.{◌≡◌, ℕ, refl, ap, ◌∙◌}
 use Rattle.guest_model.specs.Call.{finished, with_space}
 use Rattle.guest_model.specs.Machine.{Machine}
 use Rattle.guest_model.specs.Space.{Space}

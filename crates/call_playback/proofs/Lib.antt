@@ -1,0 +1,4 @@
+pub mod Stores
+pub mod Finished
+pub mod Records
+pub mod Playing
