@@ -28,10 +28,13 @@ abbrev pub boundary_of : Boundary → paths.Boundary
 boundary_of (At state position) = paths.At (spot state.machine position)
 boundary_of End = paths.AtEnd
 
+abbrev pub script_of_job : JobFields → Script
+script_of_job job = record { first = job.position; entries = job.records }
+
 abbrev pub path_of : JobFields → Path
 path_of job = record {
   start = spot job.start.machine job.position;
-  script = record { first = job.position; entries = job.records };
+  script = script_of_job job;
   boundary = boundary_of job.end;
 }
 

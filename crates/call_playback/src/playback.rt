@@ -4,7 +4,7 @@ ghost use Rattle.guest_model.specs.Calls.{deed_of};
 ghost use Rattle.guest_model.specs.Fits.{fits};
 ghost use Rattle.guest_model.specs.Play.{played};
 ghost use Rattle.guest_mem.specs.Frames.{HasAllFrames};
-ghost use Rattle.call_playback.specs.Stores.{FramesAfterCall, range_of};
+ghost use Rattle.call_playback.specs.Stores.{FramesAfterCall, MarksStored, range_of};
 
 use crate::areas::change_areas;
 use crate::storing::finish_storing;
@@ -21,6 +21,7 @@ pub fn play(guest: &mut Guest, entry: &Record)
     ensures machine { guest.new.machine ≡ played guest.old.machine entry.now }
     ensures frames { FramesAfterCall (deed_of guest.old.machine) entry.now.stored
         guest.old.frames guest.new.frames }
+    ensures marks { MarksStored entry.now.stored guest.old.frames guest.new.frames }
     ensures origin { guest.new.origin ≡ guest.old.origin }
 {
     change_areas(guest, SystemCall::numbered(entry.number));

@@ -1,9 +1,14 @@
 -- What a step of a play, and the tests behind it, answer.
-use Rattle.std.specs.Prelude.{◌≡◌, ℕ, ◌+◌, ◌^◌, ◌<◌, ◌⊎◌, Bool, true, false}
+use Rattle.std.specs.Prelude.{◌≡◌, ℕ, ◌+◌, ◌^◌, ◌<◌, ◌⊎◌, ◌≤◌, Bool, true, false, List, []}
+use Rattle.guest_model.specs.Machine.{Machine}
 use Rattle.guest_model.specs.Play.{Halt, Script, Spot, play_step, spot, written_at}
 use Rattle.guest_model.specs.Runs.{RunState, Running, Ended}
 use Rattle.guest_model.specs.Tests.{HitCounts, PassesQuick, PassesRegisters, PassesStack, PassesWhole, SignatureFields, signature_of}
 use Rattle.guest_mem.specs.Frames.{Frames, marked_for_all}
+use Rattle.insert_points.specs.Plan.{PlanFields}
+use Rattle.insert_points.specs.declared.call.Event.{Event}
+use Rattle.rv_machine.specs.Guest.{GuestState}
+use Rattle.tool_step.specs.Steps.{events_behind, operands_of_machine}
 use Rattle.boundary_verify.specs.declared.job.Boundary.{Boundary}
 use Rattle.boundary_verify.specs.declared.job.Boundary.TheVariants.{At, End}
 
@@ -21,6 +26,19 @@ Plays script old false new = HaltsAt old (play_step script old) × (new ≡ old)
 pub record MarksWritten (script : Script) (s : Spot) (old new : Frames) : Type 0 where
   pub written : new.written ≡ marked_for_all old.written (written_at script s)
   pub count : new.count ≡ old.count
+
+-- a step of the play of a guest at a record position
+pub record IsTurn (script : Script) (old : GuestState) (calls : ℕ) (on : Bool) (new : GuestState) (later : ℕ) : Type 0 where
+  pub plays : Plays script (spot old.machine calls) on (spot new.machine later)
+  pub marks : MarksWritten script (spot old.machine calls) old.frames new.frames
+  pub origin : new.origin ≡ old.origin
+  pub not_less : calls ≤ later
+  pub one_more : later ≤ calls + 1
+
+-- the events that are left once a call was tried: those behind it, where a record was left
+abbrev pub events_left : PlanFields → Machine → Bool → Machine → List Event
+events_left plan before true after = events_behind plan (operands_of_machine before) after
+events_left plan before false after = []
 
 -- one more is counted where it passes
 abbrev pub CountsOne : Type 0 → ℕ → ℕ → Type 0

@@ -1,4 +1,4 @@
-use Rattle.std.proofs.Common.{◌≡◌, List, length, map, ap, sym, subst, ◌∙◌}
+use Rattle.std.proofs.Common.{◌≡◌, Bool, List, length, map, ap, sym, subst, ◌∙◌}
 use Rattle.std.specs.List.{list_all}
 use Rattle.call_record.specs.Record.{CallRecord, Stored}
 use Rattle.guest_model.specs.Areas.{is_range_permitted}
@@ -8,7 +8,7 @@ use Rattle.guest_model.specs.Fits.{changes_areas}
 use Rattle.guest_model.specs.Machine.{Machine}
 use Rattle.guest_model.specs.Space.{Space, with_bytes}
 use Rattle.guest_model.specs.declared.Access.TheVariants.{Write}
-use Rattle.guest_mem.specs.Frames.{HasAllFrames, TakesFrames}
+use Rattle.guest_mem.specs.Frames.{HasAllFrames, TakesFrames, marked_for_all}
 use Rattle.call_playback.specs.Areas.{areas_by}
 use Rattle.call_playback.specs.Stores.{range_of}
 use Rattle.call_playback.proofs.Playing.{frames_so, played_so, still_has, still_writable}
@@ -64,3 +64,15 @@ returns-clause-frames c =
     let number : call ≡ call_numbered entry.number = c.numbered.ensures ∙ ap (λ (e : CallRecord). call_numbered e.number) c.entry.view_is in
     frames_so old.machine call entry.stored old c.change_areas.new.guest c.finish_storing.new.guest.frames (ap call_numbered (sym does.number) ∙ sym number) (λ h. does.none (ap changes_areas (sym number) ∙ h)) c.change_areas.ensures
     (subst (λ (ws : List Stored). TakesFrames c.change_areas.new.guest.frames c.finish_storing.new.guest.frames (map range_of ws)) stored c.finish_storing.ensures.frames)
+
+pub returns-clause-marks : goal.returns-clause-marks
+returns-clause-marks c =
+    let entry = c.args.entry.now in
+    let stored : c.deref.result.now ≡ entry.stored = c.deref.ensures.value ∙ ap (λ (e : CallRecord). e.stored) c.entry.view_is in
+    let takes = c.finish_storing.ensures.frames in
+    record {
+      written = takes.written
+          ∙ ap (λ (ws : List Stored). marked_for_all c.change_areas.new.guest.frames.written (map range_of ws)) stored
+          ∙ ap (λ (marks : List Bool). marked_for_all marks (map range_of entry.stored)) c.change_areas.ensures.written;
+      count = takes.count ∙ c.change_areas.ensures.count;
+    }
