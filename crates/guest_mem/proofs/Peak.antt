@@ -1,25 +1,25 @@
 -- A memory with as many frames as pages are ever written lacks none.
-use Rattle.std.proofs.Common.{◌≡◌, ℕ, ◌+◌, ◌*◌, ◌/◌, ◌^◌, ◌<◌, ◌≤◌, ◌==◌, ◌&&◌, ◌||◌, not, Bool, true, false, cond, List, [], ◌∷◌, length, get_or, map, refl, sym, ap, subst, ◌∙◌, inl, inr, arith}
+use Rattle.std.proofs.Common.{◌≡◌, ℕ, ◌+◌, ◌*◌, ◌^◌, ◌≤◌, ◌&&◌, ◌||◌, not, Bool, true, false, List, [], ◌∷◌, length, get_or, refl, sym, ap, ◌∙◌, inl, inr, arith}
 use Rattle.std.specs.List.{All, count_by, list_all, range_with_len}
 use Rattle.std.proofs.lemmas.Bool.{cases_Bool, cases_lt, and_parts, or_cases, true≢false}
 use Rattle.std.proofs.lemmas.List.{get_or_past}
-use Rattle.guest_model.specs.Areas.{all_permitted, is_mapped, is_permitted, is_range_permitted, wrap}
+use Rattle.guest_model.specs.Areas.{all_permitted, is_mapped, is_range_permitted}
 use Rattle.guest_model.specs.Effect.{Effect, Next, Call, Fault, effect_of, stored_by}
 use Rattle.guest_model.specs.Machine.{Machine}
-use Rattle.guest_model.specs.Range.{Range, is_page_among, is_page_of, range}
+use Rattle.guest_model.specs.Range.{Range, is_page_among, is_page_of}
 use Rattle.guest_model.specs.Valid.{IsWhole}
 use Rattle.guest_model.specs.declared.Access.TheVariants.{Write}
 use Rattle.guest_model.specs.declared.Area.{Area}
 use Rattle.guest_model.proofs.Stored.{stored_is_small}
 use Rattle.cow_pages.specs.Marks.{count_marked}
-use Rattle.guest_mem.specs.Frames.{Frames, HasAllFrames, frames_for_all, marked_for_all}
+use Rattle.guest_mem.specs.Frames.{HasAllFrames, frames_for_all, marked_for_all}
 use Rattle.guest_mem.specs.Memory.{Memory, HasFramesWhereWritten}
 use Rattle.guest_mem.proofs.Enough.{count_le, page_mapped}
 use Rattle.guest_mem.proofs.Permitted.{all_mapped}
 use Rattle.guest_mem.proofs.Ranges.{is_page_among-one}
 use Rattle.guest_mem.proofs.Taken.{counted, count_map, count_or}
 
-counted_after_all : (marks : List Bool) (rs : List Range) → count_marked (marked_for_all marks rs) ≡ count_by (λ page. is_page_among rs page || get_or marks page false) (range_with_len 0 (length marks))
+pub counted_after_all : (marks : List Bool) (rs : List Range) → count_marked (marked_for_all marks rs) ≡ count_by (λ page. is_page_among rs page || get_or marks page false) (range_with_len 0 (length marks))
 unfolding count_marked marked_for_all
 counted_after_all marks rs = count_map (λ page. is_page_among rs page || get_or marks page false) (range_with_len 0 (length marks))
 
@@ -53,10 +53,10 @@ less_needed : (m : Memory) (rs : List Range) (size : ℕ) → size ≡ 2 ^ 20 �
     → ((page : ℕ) → is_page_among rs page ≡ true → is_mapped m.space.areas (4096 * page) ≡ true) → frames_for_all m.frames.framed rs ≤ frames_for_all m.frames.written rs
 less_needed m rs size all framed some others mapped =
     let le = count_le (λ page. is_page_among rs page && not (get_or m.frames.framed page false)) (λ page. is_page_among rs page && not (get_or m.frames.written page false)) (range_with_len 0 size)
-      (λ page h.
-        let parts = and_parts (is_page_among rs page) (not (get_or m.frames.framed page false)) h in
-        let none = unwritten m page framed (others ∙ all) (mapped page parts.0) (is_not (get_or m.frames.framed page false) parts.1) in
-        rw (parts.0, none) refl) in
+    (λ page h.
+    let parts = and_parts (is_page_among rs page) (not (get_or m.frames.framed page false)) h in
+    let none = unwritten m page framed (others ∙ all) (mapped page parts.0) (is_not (get_or m.frames.framed page false) parts.1) in
+    rw (parts.0, none) refl) in
     omega (arith, le, lacks m.frames.framed rs size some, lacks m.frames.written rs size others)
 
 -- frames that are as many as the pages written so far and in these ranges suffice for the ranges

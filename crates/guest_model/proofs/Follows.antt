@@ -5,7 +5,7 @@ use Rattle.std.proofs.lemmas.List.{length-append}
 use Rattle.call_record.specs.Record.{CallRecord}
 use Rattle.guest_model.specs.Runs.{Running, along}
 use Rattle.guest_model.specs.Serial.{Position, step_of, entry_at, run_of, entries_of}
-use Rattle.guest_model.specs.Play.{Spot, Script, play_step, play_of, spot_of}
+use Rattle.guest_model.specs.Play.{Script, play_step, play_of, spot_of}
 use Rattle.guest_model.proofs.Runs.{after-zero, along-zero, last_step, after-next, along-next, running_same}
 use Rattle.guest_model.proofs.Onward.{Onward, by_machine, by_call, onward}
 

@@ -1,6 +1,6 @@
 -- What one step of a serial run is, and what the play makes of it: the one place that looks into effects and calls.
-use Rattle.std.proofs.Common.{◌≡◌, ℕ, ◌+◌, List, [], ◌∷◌, refl, ap}
-use Rattle.std.specs.Prelude.{Option, None, Some}
+use Rattle.std.proofs.Common.{◌≡◌, ◌+◌, [], ◌∷◌, refl, ap}
+use Rattle.std.specs.Prelude.{None, Some}
 use Rattle.call_record.specs.Record.{CallRecord}
 use Rattle.guest_model.specs.Call.{World, Called, Went, Exits, call_of}
 use Rattle.guest_model.specs.Call as calls

@@ -4,10 +4,11 @@ ghost use Rattle.call_record.specs.Record.{CallRecord};
 ghost use Rattle.guest_model.specs.Call.{World, Sent, Went, call_of, machine_after};
 ghost use Rattle.guest_model.specs.Calls.{Deed, deed_of, used_ranges};
 ghost use Rattle.guest_model.specs.Machine.{Machine};
-ghost use Rattle.guest_model.specs.Play.{Script, play_of, played, spot_of};
+ghost use Rattle.guest_model.specs.Play.{Script, Spot, play_of, played, spot_of};
 ghost use Rattle.guest_model.specs.Range.{Range, total_size};
 ghost use Rattle.guest_model.specs.Runs.{Running, Ended, after};
 ghost use Rattle.guest_model.specs.Serial.{Position, End, entries_of, run_of, step_of};
+ghost use Rattle.guest_model.specs.Tests.{AreHits, HitCounts};
 
 use crate::platform::{MOST_READ, MOST_USED};
 
@@ -35,6 +36,12 @@ pub fn play_follows()
     ensures { (script : Script) (p q : Position) (n : ℕ) (rest : List CallRecord)
         → script.first ≡ p.calls → script.entries ≡ entries_of n p ++ rest → run_of n p ≡ Running q
         → play_of script n (spot_of p) ≡ Running (spot_of q) }
+{}
+
+/// Of a boundary and a list of positions there is one count for each test.
+pub fn counts_are_exact()
+    ensures { (target : Spot) (spots : List Spot) (counts others : HitCounts) → AreHits target spots counts
+        → AreHits target spots others → counts ≡ others }
 {}
 
 /// readv uses at most 8 ranges, with at most 65,536 bytes in all.

@@ -1,2 +1,5 @@
 pub mod Signatures
 pub mod Turns
+pub mod Frames
+pub mod SoFar
+pub mod Slices

@@ -1,5 +1,5 @@
 -- The signature of a boundary that was reached.
-use Rattle.std.proofs.Common.{◌≡◌, sym, ap, ◌∙◌}
+use Rattle.std.proofs.Common.{◌≡◌, ap, ◌∙◌}
 use Rattle.guest_model.specs.Play.{Spot}
 use Rattle.guest_model.specs.Tests.{SignatureFields, signature_of}
 use Rattle.boundary_verify.specs.Job.{boundary_of}

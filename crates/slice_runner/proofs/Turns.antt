@@ -1,5 +1,5 @@
 -- One step of a play, as the guest and the tool make it.
-use Rattle.std.proofs.Common.{◌≡◌, ℕ, ◌+◌, ◌≤◌, Bool, true, false, List, [], ◌++◌, map, refl, sym, ap, subst, ◌∙◌, arith}
+use Rattle.std.proofs.Common.{◌≡◌, ℕ, ◌+◌, Bool, true, false, List, [], ◌++◌, map, refl, sym, ap, subst, ◌∙◌, arith}
 use Rattle.std.specs.Prelude.{Option, None, Some, Result, Ok, Err, IfOk}
 use Rattle.std.specs.declared.alloc.AllocError.{AllocError}
 use Rattle.std.proofs.lemmas.List.{append-nil}
@@ -7,9 +7,8 @@ use Rattle.call_record.specs.Record.{CallRecord}
 use Rattle.guest_model.specs.Effect.{Effect, Next, Call, Fault, effect_of, stored_by}
 use Rattle.guest_model.specs.Machine.{Machine}
 use Rattle.guest_model.specs.Play.{Halt, Faulted, Unrecorded, Script, Spot, entry_for, machine_of, play_by, play_by_entry, play_step, played, played_item, range_of, spot, written_at, written_by_entry, written_in_play}
-use Rattle.guest_model.specs.Range.{Range}
 use Rattle.guest_model.specs.Runs.{RunState, Running, Ended}
-use Rattle.guest_mem.specs.Frames.{Frames, HasAllFrames, TakesFrames, marked_for_all}
+use Rattle.guest_mem.specs.Frames.{Frames, HasAllFrames, marked_for_all}
 use Rattle.guest_mem.proofs.Ranges.{has_none, marked_for_all-none}
 use Rattle.insert_points.specs.Plan.{PlanFields}
 use Rattle.insert_points.specs.declared.call.Event.{Event}

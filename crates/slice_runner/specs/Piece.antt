@@ -4,6 +4,7 @@ use Rattle.guest_model.specs.Runs.{state_of}
 use Rattle.guest_model.specs.Tests.{HitCounts}
 use Rattle.insert_points.specs.Plan.{PlanFields}
 use Rattle.insert_points.specs.declared.call.Event.{Event}
+use Rattle.tool_law.specs.Law.{KeepsMeaning}
 use Rattle.tool_law.specs.declared.piece.Hits.{Hits}
 use Rattle.tool_law.specs.declared.piece.Piece.{Piece}
 use Rattle.tool_step.specs.Steps.{trace_events}
@@ -23,3 +24,11 @@ pub record IsPieceOf {T L S : Type 0} (stands : List Event → L → Type 0) (pl
   pub steps : piece.steps ≡ length (path_trace (path_of job) distance)
   pub calls : piece.calls ≡ (state_of (path_after (path_of job) distance)).calls - job.position
   pub hits : AreHitsOf (path_of job) distance (counts_of piece.hits)
+
+-- the piece has these numbers, and a local that stands for what the given one stood for
+pub record IsPieceWith {T L S : Type 0} (stands : List Event → L → Type 0) (job : JobFields) (local : L) (steps calls : ℕ) (hits : Hits) (piece : Piece T L S) : Type 0 where
+  pub index : piece.index ≡ job.index
+  pub local_is : KeepsMeaning stands local piece.local
+  pub steps_are : piece.steps ≡ steps
+  pub calls_are : piece.calls ≡ calls - job.position
+  pub hits_are : piece.hits ≡ hits

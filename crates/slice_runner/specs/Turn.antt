@@ -1,13 +1,16 @@
 -- What a step of a play, and the tests behind it, answer.
-use Rattle.std.specs.Prelude.{◌≡◌, ℕ, ◌+◌, ◌^◌, ◌<◌, ◌⊎◌, ◌≤◌, Bool, true, false, List, []}
+use Rattle.std.specs.Prelude.{◌≡◌, ℕ, ◌+◌, ◌^◌, ◌<◌, ◌⊎◌, ◌≤◌, Bool, true, false, List, [], length, Option, None, Some}
 use Rattle.guest_model.specs.Machine.{Machine}
 use Rattle.guest_model.specs.Play.{Halt, Script, Spot, play_step, spot, written_at}
 use Rattle.guest_model.specs.Runs.{RunState, Running, Ended}
 use Rattle.guest_model.specs.Tests.{HitCounts, PassesQuick, PassesRegisters, PassesStack, PassesWhole, SignatureFields, signature_of}
+use Rattle.guest_model.specs.Valid.{IsSpace}
+use Rattle.cow_pages.specs.Marks.{count_marked}
 use Rattle.guest_mem.specs.Frames.{Frames, marked_for_all}
+use Rattle.guest_mem.specs.Memory.{HasFramesWhereWritten}
 use Rattle.insert_points.specs.Plan.{PlanFields}
 use Rattle.insert_points.specs.declared.call.Event.{Event}
-use Rattle.rv_machine.specs.Guest.{GuestState}
+use Rattle.rv_machine.specs.Guest.{GuestState, memory_of}
 use Rattle.tool_step.specs.Steps.{events_behind, operands_of_machine}
 use Rattle.boundary_verify.specs.declared.job.Boundary.{Boundary}
 use Rattle.boundary_verify.specs.declared.job.Boundary.TheVariants.{At, End}
@@ -51,15 +54,30 @@ pub record CountsAt (target s : Spot) (old new : HitCounts) : Type 0 where
   pub stack : CountsOne (PassesStack target s) old.stack new.stack
   pub whole : CountsOne (PassesWhole target s) old.whole new.whole
 
--- the signature is that of the boundary, if there is one
+-- the signature is that of the boundary
 abbrev pub IsSignatureOf : Boundary → SignatureFields → Type 0
 IsSignatureOf (At state position) s = s ≡ signature_of (spot state.machine position)
 IsSignatureOf End s = ⊥
 
+-- there is one where the slice does not end with the run
+abbrev pub HasSignature : Boundary → Option SignatureFields → Type 0
+HasSignature (At state position) (Some s) = s ≡ signature_of (spot state.machine position)
+HasSignature (At state position) None = ⊥
+HasSignature End s = s ≡ None
+
+-- the position was counted; of a slice that ends with the run none is
 abbrev pub CountsBy : Boundary → Spot → HitCounts → HitCounts → Type 0
 CountsBy (At state position) s old new = CountsAt (spot state.machine position) s old new
-CountsBy End s old new = ⊥
+CountsBy End s old new = new ≡ old
 
 -- the counts are far from the end of their type
 abbrev pub HasRoom : HitCounts → Type 0
 HasRoom hits = (hits.quick < 2 ^ 63) × ((hits.registers < 2 ^ 63) × ((hits.stack < 2 ^ 63) × (hits.whole < 2 ^ 63)))
+
+-- what is so of the frames and the areas of every guest
+pub record KnowsFrames (g : GuestState) : Type 0 where
+  pub framed : HasFramesWhereWritten (memory_of g)
+  pub framed_pages : length g.frames.framed ≡ 2 ^ 20
+  pub written_pages : length g.frames.written ≡ 2 ^ 20
+  pub enough : g.frames.count ≤ g.frames.free + count_marked g.frames.written
+  pub valid : IsSpace g.machine.space

@@ -2,4 +2,7 @@
 #![tactic(auto)]
 
 mod hits;
+mod slice;
 mod turn;
+
+pub use slice::{MOST_STEPS, Slice, open_slice, run_slice};

@@ -1,7 +1,6 @@
-use Rattle.std.proofs.Common.{◌≡◌, ap, sym, ◌∙◌}
-use Rattle.std.specs.Prelude.{Some, None}
+use Rattle.std.proofs.Common.{sym}
 use Rattle.boundary_verify.specs.Job.{script_of_job}
-use Rattle.guest_model.specs.Play.{entry_for, spot}
+use Rattle.guest_model.specs.Play.{spot}
 use Rattle.slice_runner.proofs.Turns.{call_turn, has_for_call, none_turn}
 use Rattle.slice_runner.proofs.turn.play_call.Goals as goal
 

@@ -1,10 +1,9 @@
-use Rattle.std.proofs.Common.{◌≡◌, subst, true, false}
+use Rattle.std.proofs.Common.{subst, true, false}
 use Rattle.boundary_verify.specs.Job.{script_of_job}
 use Rattle.guest_model.specs.Effect.{effect_of}
 use Rattle.guest_model.specs.Play.{spot}
 use Rattle.rv_machine.specs.Step.{Gives}
 use Rattle.rv_machine.specs.declared.step.Stepped.{Stepped}
-use Rattle.rv_machine.specs.declared.step.Stepped.TheVariants.{Call, Fault, Next}
 use Rattle.tool_step.specs.Steps.{TakesEvents, completion_of, step_events}
 use Rattle.slice_runner.proofs.Turns.{call_takes_at, fault_turn, has_for_step, next_turn, turn_takes}
 use Rattle.slice_runner.proofs.turn.play_turn.Goals as goal
