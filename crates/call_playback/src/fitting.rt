@@ -11,7 +11,7 @@ use guest_model::SystemCall;
 use guest_model::platform::{MOST_READ, MOST_USED};
 use rv_machine::Guest;
 
-// Whether a call with a row, which may go on, is this one.
+// Whether the call has a row and may go on.
 fn may_go_on(call: Option<SystemCall>) -> bool
     ensures { result ≡ may_go_on call }
 {

@@ -1,10 +1,10 @@
 -- Calls that were served, by what they do.
-use Rattle.std.proofs.Common.{◌≡◌, ◌≢◌, ℕ, ◌<◌, ◌≤◌, true, List, [], ◌∷◌, ◌++◌, length, map, take, refl, sym, ap, subst, ◌∙◌, arith}
-use Rattle.std.specs.Prelude.{Result, Ok, Err, Option, Some, None, slice_index}
+use Rattle.std.proofs.Common.{◌≡◌, ◌≢◌, ℕ, true, List, [], ◌∷◌, ◌++◌, length, map, refl, sym, ap, subst, ◌∙◌}
+use Rattle.std.specs.Prelude.{Result, Ok, Err, Some, None, slice_index}
 use Rattle.std.proofs.lemmas.Bool.{true≢false}
 use Rattle.std.proofs.lemmas.List.{append-nil}
 use Rattle.call_record.specs.Record.{CallRecord, Stored}
-use Rattle.sp_host.specs.Faults.{Faults, Caused, Faulted, Input, To}
+use Rattle.sp_host.specs.Faults.{Faults, Caused, Faulted, To}
 use Rattle.sp_host.specs.Told.{Told, PartSent, WhereTold, input_taken, moment_taken, sent}
 use Rattle.sp_host.specs.declared.host.Port.{Port}
 use Rattle.sp_host.specs.declared.host.Port.TheVariants.{Report}
@@ -12,15 +12,14 @@ use Rattle.guest_model.specs.Call as model
 use Rattle.guest_model.specs.Call.{World, Sent, Called, Went, Exits, call_by, filled, finished, input_after, machine_after, record_of, store_all, stored_at, time_bytes, moment_of, moment_after, with_space}
 use Rattle.guest_model.specs.Calls.{Deed, Answers, Takes, Sends, Tells, Maps, Ends, call_number, is_output}
 use Rattle.guest_model.specs.Errors.{failure}
-use Rattle.guest_model.specs.Machine.{Machine}
 use Rattle.guest_model.specs.Maps.{Changed}
 use Rattle.guest_model.specs.Range.{Range, range, total_size}
 use Rattle.guest_model.specs.Space.{with_bytes}
 use Rattle.guest_model.specs.declared.platform.TheConstants.{TIMESPEC_SIZE}
-use Rattle.guest_mem.specs.Frames.{Frames, TakesFrames}
+use Rattle.guest_mem.specs.Frames.{TakesFrames}
 use Rattle.guest_mem.proofs.Ranges.{takes_none}
 use Rattle.rv_machine.specs.Guest.{GuestState}
-use Rattle.syscall_layer.specs.Input.{FaultTakes, FillsRanges, IsCutShort}
+use Rattle.syscall_layer.specs.Input.{FaultTakes, FillsRanges}
 use Rattle.syscall_layer.specs.Maps.{ChangesAreas}
 use Rattle.syscall_layer.specs.Serve.{IsServed, TakesMemory, TellsCall, port_number, range_of, source_of, told_after}
 use Rattle.syscall_layer.specs.declared.server.Served.{Served}

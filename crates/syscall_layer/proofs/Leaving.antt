@@ -1,6 +1,6 @@
 -- The record that a served call leaves fits the machine at its call, and a play by it gives the machine behind it.
-use Rattle.std.proofs.Common.{◌≡◌, ℕ, ◌+◌, ◌≤◌, Bool, true, false, cond, List, [], ◌∷◌, ◌++◌, length, length-append, take, drop, refl, sym, ap, subst, ◌∙◌, arith}
-use Rattle.std.specs.Prelude.{min, nat_le, nat_lt, not, Option, Some, None, Result, Ok, Err, ◌==◌, ◌&&◌}
+use Rattle.std.proofs.Common.{◌≡◌, ℕ, ◌+◌, ◌≤◌, Bool, true, false, cond, List, [], ◌∷◌, length, length-append, take, drop, refl, sym, ap, subst, ◌∙◌, arith}
+use Rattle.std.specs.Prelude.{min, nat_le, nat_lt, not, Option, Some, Result, Ok, Err, ◌==◌}
 use Rattle.std.specs.List.{list_all, sum_by}
 use Rattle.std.proofs.lemmas.Bool.{and_from, and_parts, false≢true, true≢false}
 use Rattle.std.proofs.lemmas.Bool.Decides.{nat_tests}
@@ -21,10 +21,9 @@ use Rattle.guest_model.specs.declared.system_call.SystemCall.{SystemCall}
 use Rattle.guest_model.specs.declared.system_call.SystemCall.TheVariants.{Ioctl, Read, Write, Readv, Writev, Exit, ExitGroup, SetTidAddress, Getpid, Gettid, Brk, Munmap, Mmap2, ClockGettime64}
 use Rattle.guest_model.proofs.Used.{few_used, small_used}
 use Rattle.rv_machine.specs.Guest.{GuestState}
-use Rattle.call_playback.proofs.Records.{DoesFit, fits_so}
-use Rattle.syscall_layer.specs.Serve.{AnswersDeed, FitsAndPlays, IsRecordOf, LeavesPlayable}
+use Rattle.call_playback.proofs.Records.{fits_so}
+use Rattle.syscall_layer.specs.Serve.{AnswersDeed, IsRecordOf, LeavesPlayable}
 use Rattle.syscall_layer.specs.declared.fault.CallFault.{CallFault}
-use Rattle.syscall_layer.specs.declared.fault.CallFault.TheVariants as faults
 use Rattle.syscall_layer.specs.declared.server.Served.{Served}
 use Rattle.syscall_layer.specs.declared.server.Served.TheVariants as served
 use Rattle.syscall_layer.proofs.Permitted.{front_permitted}

@@ -8,3 +8,4 @@ pub mod Permitted
 pub mod Rows
 pub mod Deeds
 pub mod Leaving
+pub mod Kept

@@ -1,17 +1,16 @@
 -- Bytes that fill ranges: where they are stored, and what that needs.
-use Rattle.std.proofs.Common.{◌≡◌, ℕ, ◌+◌, ◌<◌, ◌≤◌, ◌==◌, ◌&&◌, inl, inr, Bool, true, false, cond, List, [], ◌∷◌, ◌++◌, length, get_or, map, take, drop, refl, sym, ap, subst, ◌∙◌, arith}
+use Rattle.std.proofs.Common.{◌≡◌, ℕ, ◌≤◌, ◌==◌, ◌&&◌, inl, inr, Bool, true, false, cond, List, [], ◌∷◌, ◌++◌, length, map, take, drop, refl, sym, ap, ◌∙◌, arith}
 use Rattle.std.specs.Prelude.{not, filter, slice_index_or}
 use Rattle.std.specs.List.{list_all, list_any, count_by, range_with_len}
 use Rattle.std.proofs.lemmas.Bool.{and_from, and_parts, or_cases, or_left, or_right, false≢true}
 use Rattle.std.proofs.lemmas.Bool.Decides.{nat_tests}
-use Rattle.std.proofs.lemmas.List.{map-append, length-take, take-append-le, take_all, take_more, take-append-drop}
+use Rattle.std.proofs.lemmas.List.{map-append, length-take, take-append-le, take_all}
 use Rattle.std.proofs.lemmas.List.Folds.{list_all-append, list_all-map, list_any-append}
 use Rattle.call_record.specs.Record.{Stored}
 use Rattle.guest_model.specs.Call.{filled, stored_at}
-use Rattle.guest_model.specs.Range.{Range, is_page_of, is_page_among, range}
-use Rattle.guest_mem.specs.Frames.{Frames, HasAllFrames, TakesFrames, frames_for_all}
+use Rattle.guest_model.specs.Range.{Range, is_page_of, is_page_among}
+use Rattle.guest_mem.specs.Frames.{Frames, HasAllFrames, frames_for_all}
 use Rattle.guest_mem.proofs.Few.{one_if, one_more}
-use Rattle.guest_mem.proofs.Ranges.{has_first, has_rest, takes_more}
 use Rattle.guest_mem.proofs.Taken.{page_of_part}
 use Rattle.syscall_layer.specs.Serve.{range_of}
 use Rattle.syscall_layer.proofs.Used.{has_bytes}

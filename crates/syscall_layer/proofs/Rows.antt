@@ -1,5 +1,5 @@
 -- The rows of calls, where a test fails and where all pass.
-use Rattle.std.proofs.Common.{◌≡◌, ◌≢◌, ℕ, ◌*◌, ◌<◌, ◌≤◌, Bool, true, false, List, [], ◌∷◌, refl, sym, ap, ◌∙◌, arith}
+use Rattle.std.proofs.Common.{◌≡◌, ◌≢◌, ℕ, ◌<◌, ◌≤◌, Bool, true, false, [], ◌∷◌, ap, ◌∙◌, arith}
 use Rattle.std.specs.Prelude.{Option, None, Some, min, not, nat_lt, nat_le, ◌==◌, if◌then◌else◌}
 use Rattle.std.specs.List.{flat_map, list_all}
 use Rattle.std.specs.Option.{option_map}
@@ -11,7 +11,7 @@ use Rattle.guest_model.specs.Effect.{Call, effect_of}
 use Rattle.guest_model.specs.Errors.{failure}
 use Rattle.guest_model.specs.Written.{storable_by, written_by, written_with}
 use Rattle.guest_model.specs.Machine.{Machine}
-use Rattle.guest_model.specs.Range.{Range, range, total_size}
+use Rattle.guest_model.specs.Range.{range, total_size}
 use Rattle.guest_model.specs.declared.Access.{Access}
 use Rattle.guest_model.specs.declared.platform.TheConstants.{EBADF, EFAULT, EINVAL, MOST_RANGES, MOST_READ, MOST_SENT, TIMESPEC_SIZE}
 use Rattle.guest_model.specs.declared.system_call.SystemCall.{SystemCall}

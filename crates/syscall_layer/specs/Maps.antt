@@ -1,5 +1,5 @@
 -- What a call leaves that changes the areas.
-use Rattle.std.specs.Prelude.{◌≡◌, List, []}
+use Rattle.std.specs.Prelude.{◌≡◌, []}
 use Rattle.guest_model.specs.Call.{finished, record_of, with_space}
 use Rattle.guest_model.specs.Maps.{Changed}
 use Rattle.rv_machine.specs.Guest.{GuestState}

@@ -1,6 +1,6 @@
 -- What serving a call answers, and what it does to the guest and to what a host tells.
 use Rattle.std.specs.Prelude.{◌≡◌, ◌≢◌, ℕ, ◌<◌, ◌≤◌, List, [], ◌∷◌, ◌++◌, true, length, Option, None, Some, Result, Ok, Err}
-use Rattle.call_record.specs.Record.{CallRecord, Stored}
+use Rattle.call_record.specs.Record.{CallRecord}
 use Rattle.sp_host.specs.Told.{Told, appended, PartSent}
 use Rattle.sp_host.specs.Faults.{Faults, Source, Input, To, CausedIn}
 use Rattle.sp_host.specs.declared.host.Port.{Port}
@@ -11,7 +11,7 @@ use Rattle.guest_model.specs.Calls.{Deed, Answers, Takes, Sends, Tells, Maps, En
 use Rattle.guest_model.specs.Fits.{fits}
 use Rattle.guest_model.specs.Machine.{Machine}
 use Rattle.guest_model.specs.Play.{played}
-use Rattle.guest_model.specs.Range.{Range, total_size}
+use Rattle.guest_model.specs.Range.{total_size}
 use Rattle.guest_model.specs.Serial.{bytes_to}
 pub use Rattle.call_playback.specs.Stores.{FramesAfter, range_of}
 use Rattle.rv_machine.specs.Guest.{GuestState}

@@ -4,7 +4,7 @@ ghost use Rattle.std.specs.Prelude.{◌≡◌, ◌<◌};
 
 use call_record::Record;
 use rv_machine::{Guest, Stepped};
-use sample_files::{guest_of, two_segments};
+use sample_files::{guest_of, push_call, two_segments};
 use sp_host::{FaultPlan, MemoryHost, Port};
 use std::alloc::{AllocError, Global};
 use std::process::Abort;
@@ -47,29 +47,11 @@ const NO_TERMINAL: u32 = 0xffffffe7;
 
 const NO_ROOM: u32 = 0xfffffff4;
 
-// lui and addi, which put a value into a register.
-fn set(register: u32, value: u32) -> [u32; 2]
-    requires { register < 32 }
-{
-    let upper = value.wrapping_add(0x800) & 0xfffff000;
-    let lower = value.wrapping_shl(20);
-    [
-        upper | register << 7 | 0x37,
-        lower | register << 15 | register << 7 | 0x13,
-    ]
-}
-
 // The words that make these calls in order.
 fn code_of(alloc: Global, rows: &[Row]) -> Result<Vec<u32>, AllocError> {
     let mut words = Vec::new(alloc);
-    for Row(number, [x10, x11, x12, x13], _) in rows {
-        words.extend_from_slice(&set(17, *number))?;
-        words.extend_from_slice(&set(10, *x10))?;
-        words.extend_from_slice(&set(11, *x11))?;
-        words.extend_from_slice(&set(12, *x12))?;
-        words.extend_from_slice(&set(13, *x13))?;
-        // ecall
-        words.push(0x00000073)?;
+    for Row(number, arguments, _) in rows {
+        push_call(&mut words, *number, *arguments)?;
     }
     Ok(words)
 }

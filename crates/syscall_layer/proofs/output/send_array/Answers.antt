@@ -9,7 +9,6 @@ use Rattle.guest_model.specs.Calls.{argument, can_read, range_at, range_bytes, a
 use Rattle.guest_model.specs.Range.{Range}
 use Rattle.guest_model.specs.declared.Access.TheVariants.{Read}
 use Rattle.guest_mem.specs.Memory.{Memory}
-use Rattle.rv_machine.specs.Guest.{GuestState}
 use Rattle.syscall_layer.proofs.Arrays.{all_at, bytes_more, bytes_whole, take_ranges}
 use Rattle.syscall_layer.proofs.Sending.{part_between}
 use Rattle.syscall_layer.proofs.output.send_array.Goals as goal

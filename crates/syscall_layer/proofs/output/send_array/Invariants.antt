@@ -2,7 +2,6 @@ use Rattle.std.proofs.Common.{◌≡◌, take}
 use Rattle.std.specs.List.{flat_map}
 use Rattle.sp_host.specs.Told.{sent}
 use Rattle.guest_model.specs.Calls.{range_bytes, array_of}
-use Rattle.rv_machine.specs.Guest.{GuestState}
 use Rattle.syscall_layer.proofs.output.send_array.Given as goal
 
 abbrev pub invariant-loop-k : goal.invariant-loop-k

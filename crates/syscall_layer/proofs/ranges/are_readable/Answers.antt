@@ -5,7 +5,6 @@ use Rattle.guest_model.specs.Range.{Range}
 use Rattle.guest_model.specs.Calls.{argument, can_read, range_at}
 use Rattle.guest_model.specs.declared.Access.TheVariants.{Read}
 use Rattle.guest_mem.specs.Memory.{Memory}
-use Rattle.rv_machine.specs.Guest.{GuestState}
 use Rattle.syscall_layer.proofs.Arrays.{all_more, not_all, take_ranges}
 use Rattle.syscall_layer.proofs.ranges.are_readable.Goals as goal
 

@@ -1,7 +1,6 @@
 use Rattle.std.proofs.Common.{◌≡◌, true, take}
 use Rattle.std.specs.List.{list_all}
 use Rattle.guest_model.specs.Calls.{can_read, array_of}
-use Rattle.rv_machine.specs.Guest.{GuestState}
 use Rattle.syscall_layer.proofs.ranges.are_readable.Given as goal
 
 abbrev pub invariant-loop-k : goal.invariant-loop-k

@@ -1,5 +1,4 @@
 use Rattle.std.proofs.Common.{arith}
-use Rattle.rv_machine.specs.Guest.{GuestState}
 use Rattle.syscall_layer.proofs.Arrays.{array_end}
 use Rattle.syscall_layer.proofs.ranges.range_at.Goals as goal
 

@@ -1,7 +1,6 @@
 use Rattle.std.proofs.Common.{◌<◌, ◌∙◌, ap, arith}
 use Rattle.guest_model.specs.Range.{Range, total_size}
 use Rattle.guest_model.specs.Calls.{argument}
-use Rattle.rv_machine.specs.Guest.{GuestState}
 use Rattle.syscall_layer.proofs.Arrays.{total_more, take_ranges}
 use Rattle.syscall_layer.proofs.ranges.total_size.Goals as goal
 

@@ -1,7 +1,6 @@
 use Rattle.std.proofs.Common.{◌≡◌, ◌*◌, ◌≤◌, take}
 use Rattle.guest_model.specs.Range.{total_size}
 use Rattle.guest_model.specs.Calls.{array_of}
-use Rattle.rv_machine.specs.Guest.{GuestState}
 use Rattle.syscall_layer.proofs.ranges.total_size.Given as goal
 
 abbrev pub invariant-loop-k : goal.invariant-loop-k

@@ -2,7 +2,6 @@ use Rattle.std.proofs.Common.{◌≡◌, ◌<◌, ◌≤◌, ◌∙◌, ℕ, Boo
 use Rattle.std.proofs.lemmas.Bool.Decides.{nat_tests}
 use Rattle.guest_model.specs.Range.{Range, total_size}
 use Rattle.guest_model.specs.Calls.{argument}
-use Rattle.rv_machine.specs.Guest.{GuestState}
 use Rattle.syscall_layer.proofs.Used.{uses, skips, leaves, all_used}
 use Rattle.syscall_layer.proofs.ranges.used_ranges.Goals as goal
 use Rattle.syscall_layer.proofs.ranges.used_ranges.Goals.{then-range-gt0+then-not-is_full, else-range-gt0, else-range-gt0-via-then-range-gt0+else-not-is_full, else-range-gt0-via-else-range-gt0}

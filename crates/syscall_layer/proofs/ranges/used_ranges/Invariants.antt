@@ -1,4 +1,3 @@
-use Rattle.rv_machine.specs.Guest.{GuestState}
 use Rattle.syscall_layer.proofs.Used.{IsUsed}
 use Rattle.syscall_layer.proofs.ranges.used_ranges.Given as goal
 

@@ -1,9 +1,8 @@
 use Rattle.std.proofs.Common.{◌∙◌, List, ap, sym, subst}
-use Rattle.std.specs.Prelude.{Option, None, Some, Err}
-use Rattle.guest_model.specs.Calls.{Deed, call_number, call_numbered, deed_of, row_of}
+use Rattle.std.specs.Prelude.{Option, Err}
+use Rattle.guest_model.specs.Calls.{Deed, call_numbered}
 use Rattle.guest_model.specs.Range.{Range}
 use Rattle.guest_mem.specs.Frames.{HasAllFrames}
-use Rattle.rv_machine.specs.Guest.{GuestState}
 use Rattle.syscall_layer.specs.Serve.{AnswersCall, TellsDeed}
 use Rattle.syscall_layer.specs.declared.fault.CallFault.TheVariants as faults
 use Rattle.syscall_layer.proofs.Deeds.{unsupported}
