@@ -1,9 +1,9 @@
 -- One access of a slice is one access of each cache that it may start from.
-use Rattle.std.proofs.Common.{◌≡◌, ◌∙◌, ℕ, ◌+◌, ◌<◌, ◌≤◌, ◌==◌, ◌%◌, Bool, true, false, List, [], ◌∷◌, length, get_or, set, Option, Some, None, refl, sym, ap, arith}
+use Rattle.std.proofs.Common.{◌≡◌, ◌∙◌, ℕ, ◌+◌, ◌<◌, ◌%◌, Bool, true, false, List, length, get_or, set, Option, Some, None, refl, sym, ap, arith}
 use Rattle.std.specs.Prelude.{if◌then◌else◌}
 use Rattle.std.proofs.lemmas.List.{set-get_or}
 use Rattle.std.proofs.lemmas.Bool.Decides.{nat_tests}
-use Rattle.tool_parts.specs.Pairs.{sum_zip, zip_with}
+use Rattle.tool_parts.specs.Pairs.{zip_with}
 use Rattle.tool_parts.proofs.Pairs.{get_or-zip_with, sum_zip-set, zip_with-set}
 use Rattle.cache_tool.specs.declared.slice.Touched.{Touched}
 use Rattle.cache_tool.specs.Cache.{Cache, access, keeps}

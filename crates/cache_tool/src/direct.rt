@@ -129,8 +129,14 @@ impl Tool for DirectCache {
 
     fn merge(&self, shared: &mut CacheTotals, local: CacheSlice) -> Result<(), AllocError> {
         let first = reconcile(&mut shared.kept, &local.touched);
-        shared.hits = shared.hits.wrapping_add(local.hits).wrapping_add(first.hits);
-        shared.misses = shared.misses.wrapping_add(local.misses).wrapping_add(first.misses);
+        shared.hits = shared
+            .hits
+            .wrapping_add(local.hits)
+            .wrapping_add(first.hits);
+        shared.misses = shared
+            .misses
+            .wrapping_add(local.misses)
+            .wrapping_add(first.misses);
         Ok(())
     }
 

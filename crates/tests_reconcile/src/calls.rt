@@ -7,7 +7,9 @@ use std::test::Fail;
 use tool_calls::CallTrace;
 
 const PUSH: u8 = 0;
+
 const POP: u8 = 1;
+
 const POP_PUSH: u8 = 2;
 
 // Whether a trace has this text, wherever the events are cut into two slices.
@@ -36,7 +38,8 @@ fn three_deep(rt: HostRuntime) -> Result<(), Fail> {
         event(PUSH, 0x10058, 0x10088),
         event(POP, 0x10088, 0x1005c),
     ];
-    let text = "call 0 0x00010054 0x00010068 -\ncall 1 0x0001006c 0x00010078 -\ncall 2 0x0001007c 0x00010088 -\ncall 0 0x00010058 0x00010088 -\n";
+    let text =
+        "call 0 0x00010054 0x00010068 -\ncall 1 0x0001006c 0x00010078 -\ncall 2 0x0001007c 0x00010088 -\ncall 0 0x00010058 0x00010088 -\n";
     assert!(rt; shows(alloc, &file, &events, text)?);
     Ok(())
 }
@@ -57,7 +60,8 @@ fn below_zero(rt: HostRuntime) -> Result<(), Fail> {
         event(POP, 28, 32),
         event(POP_PUSH, 32, 36),
     ];
-    let text = "call 0 0x00000008 0x0000000c -\ncall 1 0x0000000c 0x00000010 -\ncall 1 0x00000010 0x00000014 -\ncall 0 0x00000020 0x00000024 -\n";
+    let text =
+        "call 0 0x00000008 0x0000000c -\ncall 1 0x0000000c 0x00000010 -\ncall 1 0x00000010 0x00000014 -\ncall 0 0x00000020 0x00000024 -\n";
     assert!(rt; shows(alloc, &file, &events, text)?);
     Ok(())
 }

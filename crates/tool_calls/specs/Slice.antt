@@ -1,5 +1,5 @@
 -- What a slice keeps of its calls, and what a trace becomes by them.
-use Rattle.std.specs.Prelude.{◌≡◌, ℕ, ◌+◌, ◌-◌, ◌≤◌, List, ◌++◌, length, map, All}
+use Rattle.std.specs.Prelude.{ℕ, ◌+◌, ◌-◌, ◌≤◌, List, ◌++◌, length, map, All}
 use Rattle.std.proofs.Props.{props}
 use Rattle.insert_points.specs.declared.call.Event.{Event}
 use Rattle.tool_parts.specs.Effects.{IsEffect}

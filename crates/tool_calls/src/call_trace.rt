@@ -23,7 +23,9 @@ pub struct CallTrace;
 
 // The numbers of the calls that the tool asks for, by what a jump does to the stack of return addresses.
 const PUSH: u8 = 0;
+
 const POP: u8 = 1;
+
 const POP_PUSH: u8 = 2;
 
 // Asks for a call after a jump, with where it comes from and where it goes.
@@ -31,7 +33,12 @@ fn ask_jump(calls: &mut ArrayVec<Call, 8>, number: u8)
     requires { array_vec_len calls.old < 8 }
     ensures { calls.new.items ≡ calls.old.items ++ jump_call number ∷ [] }
 {
-    ask(calls, Point::Taken, number, two_args(Arg::InstPtr, Arg::Target));
+    ask(
+        calls,
+        Point::Taken,
+        number,
+        two_args(Arg::InstPtr, Arg::Target),
+    );
 }
 
 impl Tool for CallTrace {
@@ -105,7 +112,12 @@ impl Tool for CallTrace {
         Ok(())
     }
 
-    fn text(&self, views: &Views, shared: &CallTotals, out: &mut Vec<u8>) -> Result<(), AllocError> {
+    fn text(
+        &self,
+        views: &Views,
+        shared: &CallTotals,
+        out: &mut Vec<u8>,
+    ) -> Result<(), AllocError> {
         push_calls(out, views, &shared.calls)
     }
 }

@@ -34,7 +34,11 @@ fn push_call(out: &mut Vec<u8>, views: &Views, call: &Called) -> Result<(), Allo
 }
 
 /// Adds a line for each call. It fails for want of memory alone.
-pub(crate) fn push_calls(out: &mut Vec<u8>, views: &Views, calls: &[Called]) -> Result<(), AllocError>
+pub(crate) fn push_calls(
+    out: &mut Vec<u8>,
+    views: &Views,
+    calls: &[Called],
+) -> Result<(), AllocError>
     ensures { OnOk result (out.new.items ≡ out.old.items ++ call_lines views.now calls.now) }
 {
     for call in calls {

@@ -1,5 +1,5 @@
 -- Effects of slices: of none, of one more event, merged; and what holds of every state of a fold.
-use Rattle.std.proofs.Common.{◌≡◌, ◌∙◌, ℕ, ◌+◌, ◌*◌, ◌≤◌, List, [], ◌∷◌, ◌++◌, length, fold, refl, sym, ap, arith}
+use Rattle.std.proofs.Common.{◌≡◌, ◌∙◌, ℕ, ◌+◌, ◌*◌, ◌≤◌, List, [], ◌∷◌, ◌++◌, length, fold, sym, ap, arith}
 use Rattle.std.proofs.lemmas.List.Sums.{fold-append}
 use Rattle.tool_parts.specs.Effects.{IsEffect}
 

@@ -1,4 +1,4 @@
-use Rattle.std.proofs.Common.{◌≡◌, ◌∙◌, ◌+◌, ◌-◌, ◌*◌, ◌/◌, ◌%◌, ◌^◌, ◌<◌, ◌≤◌, ap, sym, arith, length, slice_index}
+use Rattle.std.proofs.Common.{◌≡◌, ◌∙◌, ◌+◌, ◌/◌, ◌%◌, ◌^◌, ◌<◌, ap, sym, arith, slice_index}
 use Rattle.cache_tool.specs.Cache.{access, last_byte}
 use Rattle.cache_tool.proofs.Merging.{slice_more, step-one, step-two}
 use Rattle.cache_tool.proofs.Powers.{sets_power}
@@ -25,9 +25,9 @@ returns-then-first-last-clause-law c = λ ys room r.
     slice_more sets line ys e _ _ r (c.note-then-first-last.ensures.bits ∙ c.note.ensures.bits) (c.note-then-first-last.ensures.mask ∙ c.note.ensures.mask)
     (c.note-then-first-last.ensures.sized ∙ c.note.ensures.sized) (omega arith)
     (λ cache same.
-        c.note-then-first-last.ensures.exact sets power (ap (λ n. n + 1) c.note.ensures.mask ∙ r.mask_is) (c.note.ensures.sized ∙ r.sized) small' cache same
-        ∙ ap (λ t. access sets t c.wrapping_shr-last.result) (c.note.ensures.exact sets power r.mask_is r.sized small cache same)
-        ∙ sym (step-two sets line _ e _ _ c.if-event-eq0.true first last c.if-first-last.true))
+    c.note-then-first-last.ensures.exact sets power (ap (λ n. n + 1) c.note.ensures.mask ∙ r.mask_is) (c.note.ensures.sized ∙ r.sized) small' cache same
+    ∙ ap (λ t. access sets t c.wrapping_shr-last.result) (c.note.ensures.exact sets power r.mask_is r.sized small cache same)
+    ∙ sym (step-two sets line _ e _ _ c.if-event-eq0.true first last c.if-first-last.true))
 
 pub returns-else-first-last-clause-law : goal.returns-else-first-last-clause-law
 returns-else-first-last-clause-law c = λ ys room r.

@@ -1,4 +1,4 @@
-use Rattle.std.proofs.Common.{◌≡◌, ◌<◌, ◌+◌, ◌^◌, ◌∙◌, arith, ap, sym, subst, All, List, length}
+use Rattle.std.proofs.Common.{◌≡◌, ◌<◌, ◌^◌, ◌∙◌, arith, ap, sym, subst, All, List}
 use Rattle.tool_calls.specs.declared.slice.Relative.{Relative}
 use Rattle.tool_calls.specs.Shown.{trace_of}
 use Rattle.tool_calls.specs.Slice.{depth_at}
