@@ -12,12 +12,19 @@ pub fn views_of(alloc: Global, file: &[u8]) -> Result<Views, Fail> {
     Ok(Views::new(alloc, &image)?)
 }
 
-// An event with this number and these two arguments.
-pub fn event(number: u8, first: u32, second: u32) -> Event {
-    Event {
-        number,
-        args: [first, second, 0, 0],
+// The number of an event and its first two arguments.
+pub type Row = (u8, u32, u32);
+
+// The events of rows.
+fn events_of(alloc: Global, rows: &[Row]) -> Result<Vec<Event>, AllocError> {
+    let mut events = Vec::new(alloc);
+    for (number, first, second) in rows {
+        events.push(Event {
+            number: *number,
+            args: [*first, *second, 0, 0],
+        })?;
     }
+    Ok(events)
 }
 
 // The local of these events.
@@ -31,7 +38,7 @@ fn local_of<T: Tool>(alloc: Global, tool: &T, events: &[Event]) -> Result<T::Loc
 }
 
 // The text of the events, given to two locals.
-pub fn text_of<T: Tool>(
+fn text_of<T: Tool>(
     alloc: Global,
     tool: &T,
     views: &Views,
@@ -44,4 +51,22 @@ pub fn text_of<T: Tool>(
     let mut out = Vec::new(alloc);
     tool.text(views, &shared, &mut out)?;
     Ok(out)
+}
+
+// Whether the rows have this text, wherever they are cut into two slices.
+pub fn shows<T: Tool>(
+    alloc: Global,
+    tool: &T,
+    views: &Views,
+    rows: &[Row],
+    text: &str,
+) -> Result<bool, AllocError> {
+    let events = events_of(alloc, rows)?;
+    for cut in 0..events.len() {
+        let (first, second) = events.split_at(cut);
+        if text_of(alloc, tool, views, first, second)?.as_slice() != text.as_bytes() {
+            return Ok(false);
+        }
+    }
+    Ok(text_of(alloc, tool, views, &events, &[])?.as_slice() == text.as_bytes())
 }
