@@ -1,5 +1,5 @@
 -- Powers of two: a number with one bit is one, and a mask gives the rest of a division by one.
-use Rattle.std.proofs.Common.{◌≡◌, ◌∙◌, ℕ, suc, zero, ◌+◌, ◌-◌, ◌*◌, ◌/◌, ◌%◌, ◌^◌, ◌<◌, ◌≤◌, refl, sym, ap, arith}
+use Rattle.std.proofs.Common.{◌≡◌, ◌∙◌, ℕ, suc, zero, ◌+◌, ◌-◌, ◌*◌, ◌/◌, ◌%◌, ◌^◌, ◌<◌, ◌≤◌, refl, sym, ap, arith, rules}
 use Rattle.std.proofs.Math.Nat.{pow-suc}
 use Rattle.std.proofs.Math.Pow.{pow-lt, pow_mono}
 use Rattle.std.proofs.lemmas.Nat.{and_mask, ones_cat, ones_le_self, zero_from_ones}
@@ -7,7 +7,7 @@ use Rattle.std.proofs.lemmas.Bool.Decides.{nat_tests}
 use Rattle.std.specs.Prelude.{IsTrue}
 use Rattle.std.specs.Int.{IsPowerOfTwo}
 use Rattle.std.specs.Int.Bits.{bit_and}
-use Rattle.std.specs.Int.Count.{ones}
+use Rattle.std.specs.Int.Count.{ones, ones_in}
 use Rattle.cache_tool.specs.Sizes.{is_line, is_sets}
 
 -- the exponent of a power of two, found by the powers beside it
@@ -56,3 +56,11 @@ sets_power n h = power_from_ones n (grind (arith, nat_tests))
 
 pub line_power : (n : ℕ) → IsTrue (is_line n) → IsPowerOfTwo n
 line_power n h = power_from_ones n (grind (arith, nat_tests))
+
+pub usual_sets : IsTrue (is_sets 64)
+unfolding ones ones_in
+usual_sets = search rules
+
+pub usual_line : IsTrue (is_line 32)
+unfolding ones ones_in
+usual_line = search rules

@@ -42,6 +42,17 @@ impl DirectCache {
     }
 }
 
+impl Default for DirectCache {
+    ghost use Rattle.cache_tool.specs.Sizes.{IsUsual};
+
+    ghost is_default = { λ cache. IsUsual cache.sets cache.line };
+
+    /// The usual cache, of 64 sets of 32 bytes.
+    fn default() -> DirectCache {
+        DirectCache { sets: 64, line: 32 }
+    }
+}
+
 // Asks for a call with an address and the size.
 fn ask_access(calls: &mut ArrayVec<Call, 8>, address: Arg)
     requires { array_vec_len calls.old < 8 }

@@ -118,6 +118,8 @@ fn sizes(rt: HostRuntime) -> Result<(), Fail> {
         let cache = DirectCache::new(*sets, *line).ok_or("sizes")?;
         assert!(rt; cache.sets == *sets && cache.line == *line);
     }
+    let usual = DirectCache::default();
+    assert!(rt; usual.sets == 64 && usual.line == 32);
     for (sets, line) in &bad {
         assert!(rt; DirectCache::new(*sets, *line).is_none());
     }
