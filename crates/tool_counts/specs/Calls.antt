@@ -7,10 +7,11 @@ use Rattle.insert_points.specs.declared.call.Call.{Call}
 use Rattle.insert_points.specs.declared.call.Point.TheVariants.{Before}
 use Rattle.insert_points.specs.declared.call.Thing.{Thing}
 use Rattle.insert_points.specs.declared.call.Thing.TheVariants as things
+use Rattle.tool_parts.specs.Calls.{call_of}
 
 -- a call with the number 0, before the instruction
 abbrev pub call_before : List Arg → Call
-call_before args = record { at = Before; number = 0; args = record { items = args } }
+call_before args = call_of Before 0 args
 
 -- `icount`: each instruction
 abbrev pub instruction_calls : Thing → List Call

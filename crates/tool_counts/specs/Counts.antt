@@ -1,13 +1,11 @@
 -- What `icount` and `bcount` count, and their texts.
-use Rattle.std.specs.Prelude.{◌≡◌, ℕ, ◌*◌, ◌≤◌, ◌^◌, ◌==◌, Bool, List, ◌++◌, codes, decimal, length, slice_index, if◌then◌else◌}
+use Rattle.std.specs.Prelude.{◌≡◌, ℕ, ◌*◌, ◌≤◌, ◌^◌, List, ◌++◌, codes, decimal, length, slice_index, if◌then◌else◌}
 use Rattle.std.specs.List.{count_by, sum_by}
 use Rattle.std.proofs.Props.{props}
 use Rattle.insert_points.specs.declared.call.Event.{Event}
+use Rattle.tool_parts.specs.Calls.{is_own}
 
--- an event of the tool's one call, which has the number 0. Any other counts for nothing
-abbrev pub is_own : Event → Bool
-is_own e = e.number == 0
-
+-- how many events are of the tool's one call
 abbrev pub own_events : List Event → ℕ
 own_events xs = count_by is_own xs
 

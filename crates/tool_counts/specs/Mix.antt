@@ -7,7 +7,7 @@ use Rattle.rv_isa.specs.Decoded.{ops}
 use Rattle.rv_isa.specs.Places.{place_of}
 use Rattle.rv_isa.specs.Text.{name_of}
 use Rattle.insert_points.specs.declared.call.Event.{Event}
-use Rattle.tool_counts.specs.Counts.{is_own}
+use Rattle.tool_parts.specs.Calls.{is_own}
 
 -- an event of an instruction whose name has the place k in the table. A place that no name has counts for nothing
 abbrev pub is_at : ℕ → Event → Bool

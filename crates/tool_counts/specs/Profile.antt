@@ -1,18 +1,17 @@
 -- What `blocks` counts, and its text.
-use Rattle.std.specs.Prelude.{◌≡◌, ℕ, ◌+◌, List, ◌++◌, fold, codes, decimal, slice_get, slice_index, Option, None, Some, option_and_then, unwrap_or, if◌then◌else◌}
+use Rattle.std.specs.Prelude.{◌≡◌, ℕ, ◌+◌, List, ◌++◌, fold, codes, decimal, slice_index, Option, None, Some, unwrap_or, if◌then◌else◌}
 use Rattle.std.specs.List.{flat_map}
 use Rattle.std.specs.Ordering.{nat_cmp}
 use Rattle.std.specs.FinMap as table
 use Rattle.std.specs.FinMap.{FinMap}
 use Rattle.std.proofs.Props.{props}
-use Rattle.elf_load.specs.Image.{FunctionFields}
 use Rattle.ins_views.specs.Blocks.{block_at}
-use Rattle.ins_views.specs.Views.{ViewFields, routine_of}
+use Rattle.ins_views.specs.Views.{ViewFields}
 use Rattle.ins_views.specs.declared.views.Block.{Block}
 use Rattle.insert_points.specs.declared.call.Event.{Event}
 use Rattle.sp_report.specs.Digits.{address_text}
-use Rattle.sp_report.specs.View.{shown_name}
-use Rattle.tool_counts.specs.Counts.{is_own}
+use Rattle.tool_parts.specs.Calls.{is_own}
+use Rattle.tool_parts.specs.Text.{routine_shown}
 
 -- a count for each head of a block that began
 abbrev pub Counts : Type 0
@@ -41,14 +40,6 @@ both (Some a) o = Some (a + unwrap_or o 0)
 abbrev pub length_shown : Option Block → ℕ
 length_shown None = 0
 length_shown (Some block) = block.len
-
--- the name of a routine, or `-` where there is none
-abbrev pub name_shown : Option FunctionFields → List ℕ
-name_shown None = codes "-"
-name_shown (Some f) = shown_name f.name
-
-unfoldable pub routine_shown : ViewFields → ℕ → List ℕ
-routine_shown views head = name_shown (option_and_then (slice_get views.routines) (routine_of views head))
 
 -- `HEAD LEN N`
 abbrev pub figures_text : ViewFields → ℕ × ℕ → List ℕ

@@ -3,13 +3,12 @@ ghost use Rattle.std.specs.Prelude.{◌≡◌, ◌++◌, false, OnOk};
 ghost use Rattle.tool_counts.specs.Calls.{block_count_calls};
 ghost use Rattle.tool_counts.specs.Counts.{BlockSums, IsBlockCount, IsBlockCount-prop, block_count_text, block_sums};
 
-use crate::calls::{ask_before, one_arg};
-use crate::text::push_number;
 use arrayvec::ArrayVec;
 use ins_views::Views;
-use insert_points::{Arg, Call, Event, Thing};
+use insert_points::{Arg, Call, Event, Point, Thing};
 use std::alloc::{AllocError, Global};
 use tool_law::Tool;
+use tool_parts::{ask, one_arg, push_number};
 
 /// Counts the blocks, and the instructions that they have.
 #[derive(Clone, Copy)]
@@ -72,7 +71,7 @@ impl Tool for BlockCount {
 
     fn insert(&self, thing: &Thing, calls: &mut ArrayVec<Call, 8>) {
         if let Thing::Block(block) = thing {
-            ask_before(calls, one_arg(Arg::Const(block.len)));
+            ask(calls, Point::Before, 0, one_arg(Arg::Const(block.len)));
         }
     }
 

@@ -4,18 +4,17 @@ ghost use Rattle.std.specs.FinMap as table;
 ghost use Rattle.indexmap.specs.IndexMap.{get};
 ghost use Rattle.ins_views.specs.Blocks.{block_at};
 ghost use Rattle.tool_counts.specs.Calls.{profile_calls};
-ghost use Rattle.tool_counts.specs.Profile.{Counts, IsProfile, IsTally, IsTally-prop, add, both, count_of, figures_text, length_shown, profile_line, profile_text, routine_shown, tally};
+ghost use Rattle.tool_counts.specs.Profile.{Counts, IsProfile, IsTally, IsTally-prop, add, both, count_of, figures_text, length_shown, profile_line, profile_text, tally};
 
-use crate::calls::ask_before;
-use crate::text::push_number;
 use arrayvec::ArrayVec;
 use indexmap::IndexMap;
 use ins_views::Views;
-use insert_points::{Arg, Call, Event, Thing};
-use sp_report::{push_address, push_name};
+use insert_points::{Arg, Call, Event, Point, Thing};
+use sp_report::push_address;
 use std::alloc::{AllocError, Global};
 use std::collections::BTreeMap;
 use tool_law::Tool;
+use tool_parts::{ask, push_number, push_routine, two_args};
 
 /// Counts how often each block began, by its head.
 #[derive(Clone, Copy)]
@@ -68,17 +67,6 @@ fn length_shown(views: &Views, head: u32) -> u32
     match views.block_at(head) {
         Some(block) => block.len,
         None => 0,
-    }
-}
-
-// Adds the name of the routine in which an address lies, or `-`.
-#[tactic(auto, unfolding(crate::specs::Profile::routine_shown))]
-fn push_routine(out: &mut Vec<u8>, views: &Views, head: u32) -> Result<(), AllocError>
-    ensures { OnOk result (out.new.items ≡ out.old.items ++ routine_shown views.now head) }
-{
-    match views.routine_of(head) {
-        Some(k) if k < views.routines() => push_name(out, views.routine(k).name.bytes()),
-        _ => out.extend_from_slice(b"-"),
     }
 }
 
@@ -147,10 +135,8 @@ impl Tool for BlockProfile {
 
     fn insert(&self, thing: &Thing, calls: &mut ArrayVec<Call, 8>) {
         if let Thing::Block(block) = thing {
-            let mut args = ArrayVec::new();
-            args.push(Arg::InstPtr);
-            args.push(Arg::Const(block.len));
-            ask_before(calls, args);
+            let args = two_args(Arg::InstPtr, Arg::Const(block.len));
+            ask(calls, Point::Before, 0, args);
         }
     }
 

@@ -3,13 +3,12 @@ ghost use Rattle.std.specs.Prelude.{◌≡◌, ◌++◌, ℕ, false, OnOk};
 ghost use Rattle.tool_counts.specs.Calls.{instruction_calls};
 ghost use Rattle.tool_counts.specs.Counts.{IsCount, IsCount-prop, count_text, own_events};
 
-use crate::calls::ask_before;
-use crate::text::push_number;
 use arrayvec::ArrayVec;
 use ins_views::Views;
-use insert_points::{Call, Event, Thing};
+use insert_points::{Call, Event, Point, Thing};
 use std::alloc::{AllocError, Global};
 use tool_law::Tool;
+use tool_parts::{ask, push_number};
 
 /// Counts the instructions.
 #[derive(Clone, Copy)]
@@ -50,7 +49,7 @@ impl Tool for InsCount {
 
     fn insert(&self, thing: &Thing, calls: &mut ArrayVec<Call, 8>) {
         if let Thing::Ins { .. } = thing {
-            ask_before(calls, ArrayVec::new());
+            ask(calls, Point::Before, 0, ArrayVec::new());
         }
     }
 

@@ -3,10 +3,8 @@
 
 mod block_count;
 mod block_profile;
-mod calls;
 mod instruction_count;
 mod op_mix;
-mod text;
 
 pub use block_count::{BlockCount, BlockTotals};
 pub use block_profile::BlockProfile;

@@ -5,14 +5,13 @@ ghost use Rattle.rv_isa.specs.Places.{place_of};
 ghost use Rattle.tool_counts.specs.Calls.{mix_calls};
 ghost use Rattle.tool_counts.specs.Mix.{IsMix, IsMix-prop, mix_line, mix_of, mix_text};
 
-use crate::calls::{ask_before, one_arg};
-use crate::text::push_number;
 use arrayvec::ArrayVec;
 use ins_views::Views;
-use insert_points::{Arg, Call, Event, Thing};
+use insert_points::{Arg, Call, Event, Point, Thing};
 use rv_isa::{Op, all_ops};
 use std::alloc::{AllocError, Global};
 use tool_law::Tool;
+use tool_parts::{ask, one_arg, push_number};
 
 /// Counts the instructions of each name.
 #[derive(Clone, Copy)]
@@ -94,7 +93,12 @@ impl Tool for OpMix {
 
     fn insert(&self, thing: &Thing, calls: &mut ArrayVec<Call, 8>) {
         if let Thing::Ins { instr, .. } = thing {
-            ask_before(calls, one_arg(Arg::Const(instr.op.place() as u32)));
+            ask(
+                calls,
+                Point::Before,
+                0,
+                one_arg(Arg::Const(instr.op.place() as u32)),
+            );
         }
     }
 

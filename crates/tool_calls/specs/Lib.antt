@@ -1,0 +1,5 @@
+pub mod Calls
+pub mod Shown
+pub mod Slice
+pub mod Text
+pub mod Trace
