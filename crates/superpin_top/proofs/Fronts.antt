@@ -132,7 +132,7 @@ memory_fronts t new grows r stopped =
       | inl lacks ↦ before lacks.told_is
       | inr (_, inl told) ↦ before told
       | inr (_, inr told) ↦ steps_fronts t new (stopped.steps + 1) r (world_of (step_of q)) (omega (arith, stopped.within))
-        (told ∙ ap (told_after t (world_of (step_of q))) (sym (along-next step_of sent_at stopped.steps (Running r.start) q stopped.stands)))
+          (told ∙ ap (told_after t (world_of (step_of q))) (sym (along-next step_of sent_at stopped.steps (Running r.start) q stopped.stands)))
     ]
 
 -- after the steps before a call that writes, and a beginning of what it sends

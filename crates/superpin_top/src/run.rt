@@ -50,9 +50,13 @@ fn run_with<T: Tool, H: Host>(
     ensures told { (w : World) (strings : List (List ℕ))
         → (H.told host.old).input ≡ Some w.input → (H.told host.old).moments ≡ Some w.moments
         → guest.machine ≡ machine_of image.now strings →
-        AttemptGives (H.told host.old) (Ok (Runs (record { image = image.now; strings = strings; budget = budget;
-        tool = with_calls (views_of image.now) T.GROWS (T.calls_of tool.now)
-        (λ xs. T.text_of tool.now (views_of image.now) (T.value tool.now xs)) })))
+        AttemptGives (H.told host.old) (Ok (Runs (record {
+          image = image.now;
+          strings = strings;
+          budget = budget;
+          tool = with_calls (views_of image.now) T.GROWS (T.calls_of tool.now)
+              (λ xs. T.text_of tool.now (views_of image.now) (T.value tool.now xs));
+        })))
         w result (H.told host.new) }
     ensures faults { MatchResult result (λ _. H.faults host.new ≡ H.faults host.old)
         (λ e. CausedBy e (H.faults host.old) (H.faults host.new)) }
@@ -91,8 +95,12 @@ pub(crate) fn run_loaded<H: Host>(
     ensures told { (w : World) (strings : List (List ℕ))
         → (H.told host.old).input ≡ Some w.input → (H.told host.old).moments ≡ Some w.moments
         → guest.machine ≡ machine_of image.now strings →
-        AttemptGives (H.told host.old) (Ok (Runs (record { image = image.now; strings = strings; budget = budget;
-        tool = meaning_of image.now tool }))) w result (H.told host.new) }
+        AttemptGives (H.told host.old) (Ok (Runs (record {
+          image = image.now;
+          strings = strings;
+          budget = budget;
+          tool = meaning_of image.now tool;
+        }))) w result (H.told host.new) }
     ensures faults { MatchResult result (λ _. H.faults host.new ≡ H.faults host.old)
         (λ e. CausedBy e (H.faults host.old) (H.faults host.new)) }
     ensures late { IfErr result IsLate }

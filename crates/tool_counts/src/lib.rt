@@ -5,6 +5,7 @@ mod block_count;
 mod block_profile;
 mod calls;
 mod instruction_count;
+pub mod laws;
 mod op_mix;
 mod text;
 
