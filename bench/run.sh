@@ -6,13 +6,14 @@
 # The guests are a generated loop and, where guest/superpin-cc works, four programs in C. For each guest a line has the steps a
 # second, in millions, each the best of TURNS runs (5 where none is said) by the processor time that they took:
 #
-#     superpin   `superpin run --by serial`, which counts instructions
+#     superpin   `superpin run --by serial`, with the tool that counts instructions
 #     run        a guest without a tool, by stretches of steps (`guest_bench run`)
 #     step       the same step by step (`guest_bench step`)
 #     plain      the plain interpreter of interpreter.rs, which reads each word anew
 #     fast       the fast one of fast.rs, whose code is decoded once
 #
-# and then superpin / plain, run / fast and step / fast. The programs in out/ are run as they stand: `rt ci guest_bench
+# and then superpin / plain, run / fast and step / fast. Then each tool has a line for each guest: the steps a second of `superpin run
+# --by serial --tool NAME`, and the same / run. The programs in out/ are run as they stand: `rt ci guest_bench
 # superpin` makes them. Needs rustc, awk and bash, whose `times` counts thousandths of a second.
 set -eu
 export LC_ALL=C
@@ -50,7 +51,8 @@ compile quicksort guest/examples/quicksort.c COUNT=187000 &&
     compile digest bench/programs/digest.c BLOCKS=7000 ||
     echo "run.sh: without the programs in C, since guest/superpin-cc said: $(head -n 1 "$folder/log")" >&2
 
-# Runs a command over a guest, and adds to the list GUEST.NAME how many steps it took, and how many it did a second.
+# Runs a command over a guest, and adds to the list GUEST.NAME how many steps it took, and how many it did a second. The steps are those
+# that its report says, or `known` where it says none.
 measure() {
     list=$folder/$1
     shift
@@ -62,7 +64,7 @@ measure() {
     fi
     times >"$folder/after"
     # The second line of `times` is for the processes that have ended, as 0m1.25s 0m0.01s.
-    awk '
+    awk -v steps="${known:-0}" '
         function seconds(text,  part) { split(text, part, /[ms]/); return 60 * part[1] + part[2] }
         FNR == 1 { file++ }
         file == 1 && FNR == 2 { spent -= seconds($1) + seconds($2) }
@@ -98,4 +100,19 @@ for guest in $guests; do
             printf " %15.2f %10.2f %11.2f\n", best[1] / best[4], best[2] / best[5], best[3] / best[5]
         }
     ' "$file.1" "$file.2" "$file.3" "$file.4" "$file.5"
+done
+
+printf '\n%-8s %-10s %10s %9s\n' tool guest superpin tool/run
+for tool in icount bcount mix blocks; do
+    for guest in $guests; do
+        read -r known _ <"$folder/$guest.2"
+        for ((turn = 0; turn < turns; turn++)); do
+            measure "$guest.$tool" "$superpin" $words --tool "$tool" "$folder/$guest"
+        done
+        awk -v tool="$tool" -v guest="$guest" '
+            FNR == 1 { file++ }
+            $2 > best[file] { best[file] = $2 }
+            END { printf "%-8s %-10s %10.1f %9.2f\n", tool, guest, best[1] / 1e6, best[1] / best[2] }
+        ' "$folder/$guest.$tool" "$folder/$guest.2"
+    done
 done

@@ -10,7 +10,11 @@ use Rattle.sp_host.specs.declared.host.Port.TheVariants.{Out, Err, Report}
 use Rattle.sp_report.specs.declared.answer.Answer.TheVariants.{Refused}
 use Rattle.sp_report.specs.declared.answer.Refusal.{Refusal}
 use Rattle.sp_report.specs.declared.answer.Refusal.TheVariants as refusals
-use Rattle.superpin_top.specs.Causes.{cause_of, IsOfGuest, CausedBy}
+use Rattle.syscall_layer.specs.declared.fault.RunFault.{RunFault}
+use Rattle.syscall_layer.specs.declared.fault.RunFault.TheVariants as faults
+use Rattle.serial_run.specs.Faults.{IsOfGuest as IsRunGuests, source_of as run_source}
+use Rattle.superpin_top.specs.Causes.{cause_of, refusal_of_run, IsOfGuest, CausedBy}
+use Rattle.superpin_top.specs.Top.{IsLate}
 use Rattle.superpin_top.specs.Outcome.{WritesLine}
 
 -- a refusal without a cause, where no count rose
@@ -26,6 +30,22 @@ calm (refusals.OutputFault port) f e = cc
 calm refusals.ReportFault f e = cc
 calm refusals.NoMemory f e = (refl, tt)
 calm refusals.NotBuilt f e = (refl, tt)
+
+-- a fault of the run
+pub run_caused : (fault : RunFault) (before now : Faults) → Caused (run_source fault) before now → IsRunGuests fault → CausedBy (refusal_of_run fault) before now
+run_caused (faults.Unsupported number pc) before now caused guests = (caused, tt)
+run_caused (faults.BudgetSpent n) before now caused guests = (caused, tt)
+run_caused faults.InputFault before now caused guests = (caused, tt)
+run_caused (faults.OutputFault port) before now caused guests = (caused, guests)
+run_caused faults.NoMemory before now caused guests = (caused, tt)
+
+-- and it is none of a file
+pub run_late : (fault : RunFault) → IsLate (refusal_of_run fault)
+run_late (faults.Unsupported number pc) = tt
+run_late (faults.BudgetSpent n) = tt
+run_late faults.InputFault = tt
+run_late (faults.OutputFault port) = tt
+run_late faults.NoMemory = tt
 
 pub calm_result : {X : Type 0} (r : Result X Refusal) (before now : Faults) → now ≡ before → IfErr r (λ e. cause_of e ≡ None) → MatchResult r (λ _. now ≡ before) (λ e. CausedBy e before now)
 calm_result (Ok x) before now same h = same

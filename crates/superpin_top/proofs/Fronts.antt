@@ -1,5 +1,5 @@
 -- What a run has sent is a beginning of what a longer one sends.
-use Rattle.std.proofs.Common.{◌≡◌, ◌<◌, ◌≤◌, ◌+◌, ◌-◌, ◌++◌, ℕ, List, [], ◌∷◌, take, drop, refl, ap, sym, ◌∙◌, arith, append_assoc}
+use Rattle.std.proofs.Common.{inl, inr, ◌≡◌, ◌<◌, ◌≤◌, ◌+◌, ◌-◌, ◌++◌, ℕ, List, [], ◌∷◌, take, drop, refl, ap, sym, ◌∙◌, arith, append_assoc}
 use Rattle.std.specs.Prelude.{Option, None, Some, Bool, true, ◌==◌, if◌then◌else◌}
 use Rattle.std.proofs.lemmas.Bool.Decides.{nat_tests}
 use Rattle.std.proofs.lemmas.List.{append-nil, take-append-drop}
@@ -14,8 +14,9 @@ use Rattle.guest_model.specs.Runs.{RunState, Running, Ended, after, along}
 use Rattle.guest_model.specs.Serial.{Position, End, Exit, Signal, Unsupported, TraceItem, bytes_to, to_port, step_of, sent_at, run_of, sent_of, trace_of}
 use Rattle.guest_model.proofs.Runs.{along-add, along-next}
 use Rattle.syscall_layer.specs.Serve.{InputPart, PartWritten, told_after}
-use Rattle.superpin_top.specs.Run.{LacksMemory, StopsInput, StepBefore}
-use Rattle.superpin_top.specs.Start.{Run}
+use Rattle.serial_run.specs.Run.{StepBefore}
+use Rattle.serial_run.specs.Steps.{StopsInput, WantsMemory, world_of}
+use Rattle.superpin_top.specs.Start.{Run, steps_of}
 use Rattle.superpin_top.specs.Due.{Due, due_state, due_run}
 use Rattle.superpin_top.specs.Outcome.{AddsFront}
 
@@ -116,18 +117,26 @@ input_leaves (Some (Tells at)) t w before new part = absurd part
 input_leaves (Some (Maps changed)) t w before new part = absurd part
 input_leaves (Some (Ends status)) t w before new part = absurd part
 
-pub input_fronts : (t new : Told) (r : Run) → StepBefore r (λ q before. StopsInput t q before new) → AddsFronts t (due_run r) new
+pub input_fronts : (t new : Told) (r : Run) → StepBefore (steps_of r) (λ q before. StopsInput t q before new) → AddsFronts t (due_run r) new
 input_fronts t new r stopped =
     let q = stopped.position in
     let left = input_leaves (deed_of q.machine) t q.world (sent_of stopped.steps r.start) new stopped.holds.part in
     steps_fronts t new stopped.steps r left.world (omega (arith, stopped.within)) left.told_is
 
--- before a step that found no memory
-pub memory_fronts : (t new : Told) (r : Run) → StepBefore r (λ q before. LacksMemory t q before new) → AddsFronts t (due_run r) new
-memory_fronts t new r stopped = steps_fronts t new stopped.steps r stopped.position.world (omega (arith, stopped.within)) stopped.holds.told_is
+-- before a step that found no memory, or behind it
+pub memory_fronts : (t new : Told) (grows : Bool) (r : Run) → StepBefore (steps_of r) (λ q before. WantsMemory grows t q before new) → AddsFronts t (due_run r) new
+memory_fronts t new grows r stopped =
+    let q = stopped.position in
+    let before = λ (told : new ≡ told_after t q.world (sent_of stopped.steps r.start)). steps_fronts t new stopped.steps r q.world (omega (arith, stopped.within)) told in
+    elim stopped.holds [
+      | inl lacks ↦ before lacks.told_is
+      | inr (_, inl told) ↦ before told
+      | inr (_, inr told) ↦ steps_fronts t new (stopped.steps + 1) r (world_of (step_of q)) (omega (arith, stopped.within))
+          (told ∙ ap (told_after t (world_of (step_of q))) (sym (along-next step_of sent_at stopped.steps (Running r.start) q stopped.stands)))
+    ]
 
 -- after the steps before a call that writes, and a beginning of what it sends
-pub output_fronts : (t new : Told) (r : Run) (port : Port) → StepBefore r (λ q before. PartWritten t q.world before port (sent_at q) new) → AddsFronts t (due_run r) new
+pub output_fronts : (t new : Told) (r : Run) (port : Port) → StepBefore (steps_of r) (λ q before. PartWritten t q.world before port (sent_at q) new) → AddsFronts t (due_run r) new
 output_fronts t new r Out stopped =
     let n = stopped.steps in
     let done = stopped.holds in

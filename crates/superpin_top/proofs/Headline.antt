@@ -191,7 +191,7 @@ fronts_before t task w refusals.ReportFault mid refuses = record {
   err = record { written = (due_task task w).err; rest = []; is_front = append-nil (due_task task w).err; told_is = ap (λ (q : Told). q.err) refuses.2.sends };
 }
 fronts_before t task w refusals.NoMemory mid (inl same) = nothing_sent t mid (due_task task w) same
-fronts_before t task w refusals.NoMemory mid (inr (inl step)) = of_task t mid task w step.0 step.1 (memory_fronts t mid (run_of_program step.0 w) step.2)
+fronts_before t task w refusals.NoMemory mid (inr (inl step)) = of_task t mid task w step.0 step.1 (memory_fronts t mid step.0.tool.grows (run_of_program step.0 w) step.2)
 fronts_before t task w refusals.NoMemory mid (inr (inr ran)) = of_task t mid task w ran.0 ran.1 (all_sent t mid (due_run (run_of_program ran.0 w)) [] ran.2.2)
 
 fronts_of : (t : Told) (task : Result Task Refusal) (w : World) (before now : Faults) (answer : Answer) (new : Told)

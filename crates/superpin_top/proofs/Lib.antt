@@ -1,5 +1,3 @@
-pub mod Steps
-pub mod Runs
 pub mod Plain
 pub mod Accepted
 pub mod Causes

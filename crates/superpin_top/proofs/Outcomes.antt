@@ -1,10 +1,9 @@
 -- From what the parts answer to what is due.
 use Rattle.std.proofs.Common.{inl, inr, ◌≡◌, ℕ, List, [], refl, ap, sym, subst, ◌∙◌}
-use Rattle.std.specs.Prelude.{Option, Some, Ok, Err, Result}
+use Rattle.std.specs.Prelude.{Bool, Option, Some, Ok, Err, Result}
 use Rattle.sp_host.specs.Told.{Told, appended, sent as sent_to, PartSent}
 use Rattle.sp_host.specs.declared.host.Port.TheVariants.{Out, Report}
 use Rattle.sp_host.proofs.Told.{appended-nil, appended-more}
-use Rattle.elf_load.specs.Image.{ImageFields}
 use Rattle.guest_model.specs.Call.{World}
 use Rattle.guest_model.specs.Machine.{Machine}
 use Rattle.guest_model.specs.Runs.{RunState, Running, Ended as RunEnded}
@@ -22,12 +21,12 @@ use Rattle.sp_report.specs.declared.answer.Answer.TheVariants.{Ended, Refused}
 use Rattle.sp_report.specs.declared.answer.Refusal.{Refusal}
 use Rattle.sp_report.specs.declared.answer.Refusal.TheVariants as refusals
 use Rattle.superpin_top.specs.Causes.{refusal_of_run}
-use Rattle.superpin_top.specs.Run.{RunGives}
-use Rattle.superpin_top.specs.Start.{Run, start_of}
-use Rattle.superpin_top.specs.Report.{count_of, report_of}
+use Rattle.serial_run.specs.Run.{EndsAt, RunFails, RunLacks}
+use Rattle.serial_run.specs.Start.{start_of}
+use Rattle.superpin_top.specs.Start.{Run, steps_of}
+use Rattle.superpin_top.specs.Report.{report_of}
 use Rattle.superpin_top.specs.Due.{Due, Program, Task, Runs, due_refused, due_run, due_shown, due_state, run_of_program, delivered}
 use Rattle.superpin_top.specs.Outcome.{IsDue, OfText, Refuses, AttemptGives}
-use Rattle.superpin_top.specs.declared.run.Finish.{Finish}
 
 -- where the input and the moments are told, a run begins here
 pub at_begin : (t : Told) (w : World) → t.input ≡ Some w.input → t.moments ≡ Some w.moments → t ≡ told_after t w []
@@ -87,78 +86,88 @@ refused_before t new task refusal w is by input moments same =
     subst (λ (p : Result Task Refusal). Refuses t p w refusal new) (sym by) (refused_early t new refusal w is input moments same)
 
 -- a run that is refused
-unsupported_refuses : (t new : Told) (number pc : ℕ) (r : Run) → RunGives t r (Err (faults.Unsupported number pc)) new → IsDue t (due_run r) (Refused (refusals.UnsupportedCall number pc)) new
-unsupported_refuses t new number pc r gives =
+unsupported_refuses : (t new : Told) (number pc : ℕ) (grows : Bool) (r : Run) → RunFails grows t (steps_of r) (faults.Unsupported number pc) new → IsDue t (due_run r) (Refused (refusals.UnsupportedCall number pc)) new
+unsupported_refuses t new number pc grows r gives =
     let state = RunEnded gives.0 (Unsupported number pc) in
-    let is = due_at r state gives.1 in
-    record { answer_is = ap (λ (q : Due). q.answer) is; told_is = told_due t (due_run r) (due_state r state (trace_of r.budget r.start) (sent_of r.budget r.start)) new is gives.2 }
+    let is = due_at r state gives.1.stands in
+    record { answer_is = ap (λ (q : Due). q.answer) is; told_is = told_due t (due_run r) (due_state r state (trace_of r.budget r.start) (sent_of r.budget r.start)) new is gives.1.told_is }
 
-spent_refuses : (t new : Told) (n : ℕ) (r : Run) → RunGives t r (Err (faults.BudgetSpent n)) new → IsDue t (due_run r) (Refused (refusals.BudgetSpent n)) new
-spent_refuses t new n r gives =
+spent_refuses : (t new : Told) (n : ℕ) (grows : Bool) (r : Run) → RunFails grows t (steps_of r) (faults.BudgetSpent n) new → IsDue t (due_run r) (Refused (refusals.BudgetSpent n)) new
+spent_refuses t new n grows r gives =
     let is = due_at r (Running gives.0) gives.1 in
     record {
       answer_is = ap (λ (q : Due). q.answer) is ∙ ap (λ (k : ℕ). Refused (refusals.BudgetSpent k)) (sym gives.2);
       told_is = told_due t (due_run r) (due_state r (Running gives.0) (trace_of r.budget r.start) (sent_of r.budget r.start)) new is gives.3;
     }
 
-pub run_refuses : (t new : Told) (p : Program) (w : World) (fault : RunFault) → RunGives t (run_of_program p w) (Err fault) new → Refuses t (Ok (Runs p)) w (refusal_of_run fault) new
-run_refuses t new p w (faults.Unsupported number pc) gives = unsupported_refuses t new number pc (run_of_program p w) gives
-run_refuses t new p w (faults.BudgetSpent n) gives = spent_refuses t new n (run_of_program p w) gives
-run_refuses t new p w faults.InputFault gives = (p, refl, gives)
-run_refuses t new p w (faults.OutputFault port) gives = inl (p, refl, gives)
-run_refuses t new p w faults.NoMemory gives = inr (inl (p, refl, gives))
-
--- a run that ended, before its report
-pub record IsFinished (t : Told) (d : Due) (finish : Finish) (new : Told) : Type 0 where
-  pub answer_is : d.answer ≡ Ended (status_of finish.end) []
-  pub report_is : d.report ≡ report_of finish.count (end_by finish.end)
+-- a run that ended, whatever its report
+pub record IsOver (t : Told) (d : Due) (end : GuestEnd) (new : Told) : Type 0 where
+  pub answer_is : d.answer ≡ Ended (status_of end) []
   pub told_is : new ≡ delivered t d []
 
-finished_by : (t new : Told) (count : ℕ) (r : Run) (last : Position) (end : GuestEnd) → run_of r.budget r.start ≡ RunEnded last (end_by end) → count ≡ count_of r.image (trace_of r.budget r.start) → new ≡ told_after t last.world (sent_of r.budget r.start)
-    → IsFinished t (due_run r) (record { end = end; count = count }) new
-finished_by t new count r last (ends.Exit status) stands counted told =
-    let is = due_at r (RunEnded last (Exit status)) stands in
-    record {
-      answer_is = ap (λ (q : Due). q.answer) is;
-      report_is = ap (λ (q : Due). q.report) is ∙ ap (λ (n : ℕ). report_of n (Exit status)) (sym counted);
-      told_is = told_due t (due_run r) (due_state r (RunEnded last (Exit status)) (trace_of r.budget r.start) (sent_of r.budget r.start)) new is told;
-    }
-finished_by t new count r last (ends.Signal kind pc) stands counted told =
+over_by : (t new : Told) (r : Run) (last : Position) (end : GuestEnd) → EndsAt t (steps_of r) last (end_by end) new → IsOver t (due_run r) end new
+over_by t new r last (ends.Exit status) ended =
+    let is = due_at r (RunEnded last (Exit status)) ended.stands in
+    record { answer_is = ap (λ (q : Due). q.answer) is; told_is = told_due t (due_run r) (due_state r (RunEnded last (Exit status)) (trace_of r.budget r.start) (sent_of r.budget r.start)) new is ended.told_is }
+over_by t new r last (ends.Signal kind pc) ended =
     let end = Signal (kind_number kind) pc in
-    let is = due_at r (RunEnded last end) stands in
-    record {
-      answer_is = ap (λ (q : Due). q.answer) is;
-      report_is = ap (λ (q : Due). q.report) is ∙ ap (λ (n : ℕ). report_of n end) (sym counted);
-      told_is = told_due t (due_run r) (due_state r (RunEnded last end) (trace_of r.budget r.start) (sent_of r.budget r.start)) new is told;
-    }
+    let is = due_at r (RunEnded last end) ended.stands in
+    record { answer_is = ap (λ (q : Due). q.answer) is; told_is = told_due t (due_run r) (due_state r (RunEnded last end) (trace_of r.budget r.start) (sent_of r.budget r.start)) new is ended.told_is }
 
-pub finishes : (t new : Told) (r : Run) (finish : Finish) → RunGives t r (Ok finish) new → IsFinished t (due_run r) finish new
-finishes t new r finish gives = finished_by t new finish.count r gives.0 finish.end gives.1 gives.2 gives.3
+-- its report
+report_by : (r : Run) (last : Position) (end : GuestEnd) → run_of r.budget r.start ≡ RunEnded last (end_by end) → (due_run r).report ≡ report_of (r.tool.text (trace_of r.budget r.start)) (end_by end)
+report_by r last (ends.Exit status) stands = ap (λ (q : Due). q.report) (due_at r (RunEnded last (Exit status)) stands)
+report_by r last (ends.Signal kind pc) stands = ap (λ (q : Due). q.report) (due_at r (RunEnded last (Signal (kind_number kind) pc)) stands)
 
-pub no_room : (t : Told) (p : Program) (w : World) (finish : Finish) (mid : Told) → IsFinished t (due_run (run_of_program p w)) finish mid → Refuses t (Ok (Runs p)) w refusals.NoMemory mid
-no_room t p w finish mid done = inr (inr (p, refl, (status_of finish.end, done.answer_is, done.told_is)))
+lacks_refuses : (t new : Told) (p : Program) (w : World) → t.input ≡ Some w.input → t.moments ≡ Some w.moments → RunLacks p.tool.grows t (steps_of (run_of_program p w)) new → Refuses t (Ok (Runs p)) w refusals.NoMemory new
+lacks_refuses t new p w input moments (inl told) = inl (told ∙ sym (at_begin t w input moments))
+lacks_refuses t new p w input moments (inr (inl step)) = inr (inl (p, refl, step))
+lacks_refuses t new p w input moments (inr (inr (last, end, ended))) =
+    let over = over_by t new (run_of_program p w) last end ended in
+    inr (inr (p, refl, (status_of end, over.answer_is, over.told_is)))
 
-pub reported : (t : Told) (p : Program) (w : World) (finish : Finish) (mid new : Told) (text : List ℕ) (status : ℕ) → IsFinished t (due_run (run_of_program p w)) finish mid → text ≡ report_of finish.count (end_by finish.end)
-    → new ≡ sent_to Report text mid → status ≡ status_of finish.end → AttemptGives t (Ok (Runs p)) w (Ok status) new
-reported t p w finish mid new text status done is wrote status_is =
+pub run_refuses : (t new : Told) (p : Program) (w : World) (fault : RunFault) → t.input ≡ Some w.input → t.moments ≡ Some w.moments → RunFails p.tool.grows t (steps_of (run_of_program p w)) fault new
+    → Refuses t (Ok (Runs p)) w (refusal_of_run fault) new
+run_refuses t new p w (faults.Unsupported number pc) input moments gives = unsupported_refuses t new number pc p.tool.grows (run_of_program p w) gives
+run_refuses t new p w (faults.BudgetSpent n) input moments gives = spent_refuses t new n p.tool.grows (run_of_program p w) gives
+run_refuses t new p w faults.InputFault input moments gives = (p, refl, gives)
+run_refuses t new p w (faults.OutputFault port) input moments gives = inl (p, refl, gives)
+run_refuses t new p w faults.NoMemory input moments gives = lacks_refuses t new p w input moments gives
+
+-- a run that ended, before its report
+pub record IsFinished (t : Told) (d : Due) (end : GuestEnd) (text : List ℕ) (new : Told) : Type 0 where
+  pub answer_is : d.answer ≡ Ended (status_of end) []
+  pub report_is : d.report ≡ report_of text (end_by end)
+  pub told_is : new ≡ delivered t d []
+
+pub finishes : (t new : Told) (r : Run) (last : Position) (end : GuestEnd) → EndsAt t (steps_of r) last (end_by end) new → IsFinished t (due_run r) end (r.tool.text (trace_of r.budget r.start)) new
+finishes t new r last end ended =
+    let over = over_by t new r last end ended in
+    record { answer_is = over.answer_is; report_is = report_by r last end ended.stands; told_is = over.told_is }
+
+pub no_room : (t : Told) (p : Program) (w : World) (end : GuestEnd) (text : List ℕ) (mid : Told) → IsFinished t (due_run (run_of_program p w)) end text mid → Refuses t (Ok (Runs p)) w refusals.NoMemory mid
+no_room t p w end text mid done = inr (inr (p, refl, (status_of end, done.answer_is, done.told_is)))
+
+pub reported : (t : Told) (p : Program) (w : World) (end : GuestEnd) (mid new : Told) (text whole : List ℕ) (status : ℕ) → IsFinished t (due_run (run_of_program p w)) end text mid → whole ≡ report_of text (end_by end)
+    → new ≡ sent_to Report whole mid → status ≡ status_of end → AttemptGives t (Ok (Runs p)) w (Ok status) new
+reported t p w end mid new text whole status done is wrote status_is =
     let d = due_run (run_of_program p w) in (
       done.answer_is ∙ ap (λ (n : ℕ). Ended n []) (sym status_is),
-      wrote ∙ (ap (sent_to Report text) done.told_is ∙ (delivered_report t d text ∙ ap (delivered t d) (is ∙ sym done.report_is))),
+      wrote ∙ (ap (sent_to Report whole) done.told_is ∙ (delivered_report t d whole ∙ ap (delivered t d) (is ∙ sym done.report_is))),
     )
 
-pub not_reported : (t : Told) (p : Program) (w : World) (finish : Finish) (mid new : Told) (text : List ℕ) → IsFinished t (due_run (run_of_program p w)) finish mid → text ≡ report_of finish.count (end_by finish.end)
-    → PartSent Report text mid new → Refuses t (Ok (Runs p)) w refusals.ReportFault new
-not_reported t p w finish mid new text done is wrote =
+pub not_reported : (t : Told) (p : Program) (w : World) (end : GuestEnd) (mid new : Told) (text whole : List ℕ) → IsFinished t (due_run (run_of_program p w)) end text mid → whole ≡ report_of text (end_by end)
+    → PartSent Report whole mid new → Refuses t (Ok (Runs p)) w refusals.ReportFault new
+not_reported t p w end mid new text whole done is wrote =
     let d = due_run (run_of_program p w) in (
-      status_of finish.end,
+      status_of end,
       done.answer_is,
       subst (λ (q : Told). PartSent Report d.report q new) done.told_is (subst (λ (xs : List ℕ). PartSent Report xs mid new) (is ∙ sym done.report_is) wrote),
     )
 
 -- the run of a guest that stands where its program begins
-pub begun : (image : ImageFields) (strings : List (List ℕ)) (budget : ℕ) (m : Machine) (w : World) → m ≡ machine_of image strings
-    → record { image = image; start = start_of m w; budget = budget } ≡ run_of_program (record { image = image; strings = strings; budget = budget }) w
-begun image strings budget m w is = ap (λ (k : Machine). record { image = image; start = start_of k w; budget = budget }) is
+pub begun : (p : Program) (m : Machine) (w : World) → m ≡ machine_of p.image p.strings → record { start = start_of m w; budget = p.budget } ≡ steps_of (run_of_program p w)
+begun p m w is = ap (λ (k : Machine). record { start = start_of k w; budget = p.budget }) is
 
 -- a text that was written, where the input and the moments are told
 shown_delivered : (t : Told) (text : List ℕ) (w : World) → t.input ≡ Some w.input → t.moments ≡ Some w.moments → sent_to Out text t ≡ delivered t (due_shown text w) []

@@ -8,7 +8,7 @@ use Rattle.std.specs.Char.{digit_value}
 use Rattle.std.proofs.lemmas.List.{length-map, take_rest}
 use Rattle.std.proofs.lemmas.Bool.{and_parts, cases_lt}
 use Rattle.std.proofs.lemmas.Bool.Decides.{nat_tests}
-use Rattle.superpin_top.specs.Words.{is_digit, is_number, budget_of, is_plain, is_word, texts, with_serial, with_budget, asked_with, behind_options, Request}
+use Rattle.superpin_top.specs.Words.{is_digit, is_number, budget_of, is_plain, is_word, texts, with_serial, with_budget, with_tool, tool_named, asked_with, behind_options, Request}
 use Rattle.superpin_top.specs.declared.words.Options.{Options}
 
 digit_small : (c : ℕ) → is_digit c ≡ true → digit_value c < 10
@@ -56,9 +56,13 @@ next_option read o rest is = ap (λ (r : Option Options). option_and_then (λ p.
 whole_rest : (x y : String Global) (rest : List (String Global)) → take (length (x ∷ y ∷ rest) - 2) (drop 2 (x ∷ y ∷ rest)) ≡ rest
 whole_rest x y rest = take_rest (x ∷ y ∷ rest) 2
 
+abbrev behind_named : Options → List ℕ → List ℕ → List (List ℕ) → Option Request
+behind_named o word value rest =
+    if is_word word (codes "--tool") then option_and_then (λ p. behind_options p rest) (with_tool o (tool_named value)) else asked_with o (word ∷ value ∷ rest)
+
 abbrev behind_other : Options → List ℕ → List ℕ → List (List ℕ) → Option Request
 behind_other o word value rest =
-    if is_word word (codes "--budget") then option_and_then (λ p. behind_options p rest) (with_budget o (budget_of value)) else asked_with o (word ∷ value ∷ rest)
+    if is_word word (codes "--budget") then option_and_then (λ p. behind_options p rest) (with_budget o (budget_of value)) else behind_named o word value rest
 
 -- the words behind `--by` and its value
 pub behind_by : (o p : Options) (ws : List (String Global)) (word value : String Global) → 2 ≤ length ws → word ≡ get_or ws 0 word → value ≡ get_or ws 1 value → is_word (string_bytes word) (codes "--by") ≡ true
@@ -81,5 +85,21 @@ behind_budget o p (x ∷ y ∷ rest) word value le is_word_0 is_word_1 not_by bu
     let option : is_word (string_bytes x) (codes "--budget") ≡ true = ap (λ (w : String Global). is_word (string_bytes w) (codes "--budget")) (sym is_word_0) ∙ budget in
     let taken : with_budget o (budget_of (string_bytes y)) ≡ Some p = ap (λ (w : String Global). with_budget o (budget_of (string_bytes w))) (sym is_word_1) ∙ read in
     ap (λ (b : Bool). if b then option_and_then (λ q. behind_options q (texts rest)) (with_serial o (string_bytes y)) else behind_other o (string_bytes x) (string_bytes y) (texts rest)) other
-    ∙ (ap (λ (b : Bool). if b then option_and_then (λ q. behind_options q (texts rest)) (with_budget o (budget_of (string_bytes y))) else asked_with o (string_bytes x ∷ string_bytes y ∷ texts rest)) option
+    ∙ (ap (λ (b : Bool). if b then option_and_then (λ q. behind_options q (texts rest)) (with_budget o (budget_of (string_bytes y))) else behind_named o (string_bytes x) (string_bytes y) (texts rest)) option
     ∙ (next_option (with_budget o (budget_of (string_bytes y))) p (texts rest) taken ∙ ap (λ (ws : List (String Global)). behind_options p (texts ws)) (sym (whole_rest x y rest))))
+
+-- and behind `--tool` and its value
+pub behind_tool : (o p : Options) (ws : List (String Global)) (word value : String Global) → 2 ≤ length ws → word ≡ get_or ws 0 word → value ≡ get_or ws 1 value → is_word (string_bytes word) (codes "--by") ≡ false
+    → is_word (string_bytes word) (codes "--budget") ≡ false → is_word (string_bytes word) (codes "--tool") ≡ true → with_tool o (tool_named (string_bytes value)) ≡ Some p
+    → behind_options o (texts ws) ≡ behind_options p (texts (take (length ws - 2) (drop 2 ws)))
+behind_tool o p [] word value le is_word_0 is_word_1 by budget tool read = absurd (omega arith)
+behind_tool o p (x ∷ []) word value le is_word_0 is_word_1 by budget tool read = absurd (omega arith)
+behind_tool o p (x ∷ y ∷ rest) word value le is_word_0 is_word_1 not_by not_budget tool read =
+    let by : is_word (string_bytes x) (codes "--by") ≡ false = ap (λ (w : String Global). is_word (string_bytes w) (codes "--by")) (sym is_word_0) ∙ not_by in
+    let budget : is_word (string_bytes x) (codes "--budget") ≡ false = ap (λ (w : String Global). is_word (string_bytes w) (codes "--budget")) (sym is_word_0) ∙ not_budget in
+    let option : is_word (string_bytes x) (codes "--tool") ≡ true = ap (λ (w : String Global). is_word (string_bytes w) (codes "--tool")) (sym is_word_0) ∙ tool in
+    let taken : with_tool o (tool_named (string_bytes y)) ≡ Some p = ap (λ (w : String Global). with_tool o (tool_named (string_bytes w))) (sym is_word_1) ∙ read in
+    ap (λ (b : Bool). if b then option_and_then (λ q. behind_options q (texts rest)) (with_serial o (string_bytes y)) else behind_other o (string_bytes x) (string_bytes y) (texts rest)) by
+    ∙ (ap (λ (b : Bool). if b then option_and_then (λ q. behind_options q (texts rest)) (with_budget o (budget_of (string_bytes y))) else behind_named o (string_bytes x) (string_bytes y) (texts rest)) budget
+    ∙ (ap (λ (b : Bool). if b then option_and_then (λ q. behind_options q (texts rest)) (with_tool o (tool_named (string_bytes y))) else asked_with o (string_bytes x ∷ string_bytes y ∷ texts rest)) option
+    ∙ (next_option (with_tool o (tool_named (string_bytes y))) p (texts rest) taken ∙ ap (λ (ws : List (String Global)). behind_options p (texts ws)) (sym (whole_rest x y rest)))))

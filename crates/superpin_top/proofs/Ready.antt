@@ -17,6 +17,7 @@ use Rattle.rv_machine.specs.Load.{strings_size}
 use Rattle.sp_report.specs.declared.answer.Refusal.{Refusal}
 use Rattle.sp_report.specs.declared.answer.Refusal.TheVariants as refusals
 use Rattle.superpin_top.specs.Causes.{refusal_of_read}
+use Rattle.superpin_top.specs.Tools.{meaning_of}
 use Rattle.superpin_top.specs.Words.{Asked, ToRun, ToView, Request, asked, asked_run, asked_view, asked_with_view}
 use Rattle.superpin_top.specs.Due.{Task, Runs, Shows, task_in, task_of, task_of_asked, task_of_file, task_of_tested}
 use Rattle.superpin_top.specs.Outcome.{IsAccepted, IsDecided, Refuses}
@@ -36,10 +37,10 @@ tested_fault file fault a is = ap (λ (o : Option ElfFault). task_of_tested o fi
 
 by_size : (file : List ℕ) (r : Request) (long : Bool) → refusal_of file ≡ None → nat_lt MOST_STRINGS (strings_size r.strings) ≡ long
     → task_of_tested (refusal_of file) file (ToRun r)
-    ≡ (if long then Err (refusals.ArgsTooLong (min (strings_size r.strings) (2 ^ 64 - 1))) else Ok (Runs (record { image = image_of file; strings = r.strings; budget = r.budget })))
+    ≡ (if long then Err (refusals.ArgsTooLong (min (strings_size r.strings) (2 ^ 64 - 1))) else Ok (Runs (record { image = image_of file; strings = r.strings; budget = r.budget; tool = meaning_of (image_of file) r.tool })))
 by_size file r long none is =
     ap (λ (o : Option ElfFault). task_of_tested o file (ToRun r)) none
-    ∙ ap (λ (b : Bool). if b then Err (refusals.ArgsTooLong (min (strings_size r.strings) (2 ^ 64 - 1))) else Ok (Runs (record { image = image_of file; strings = r.strings; budget = r.budget }))) is
+    ∙ ap (λ (b : Bool). if b then Err (refusals.ArgsTooLong (min (strings_size r.strings) (2 ^ 64 - 1))) else Ok (Runs (record { image = image_of file; strings = r.strings; budget = r.budget; tool = meaning_of (image_of file) r.tool }))) is
 
 -- strings that are too long
 pub tested_long : (file : List ℕ) (r : Request) (bytes : ℕ) → refusal_of file ≡ None → MOST_STRINGS < strings_size r.strings → bytes ≡ min (strings_size r.strings) (2 ^ 64 - 1)
@@ -48,9 +49,9 @@ tested_long file r bytes none lt is = by_size file r true none (grind (arith, na
 
 -- a program that is accepted
 pub tested_ok : (file : List ℕ) (r : Request) (image : ImageFields) → refusal_of file ≡ None → strings_size r.strings ≤ MOST_STRINGS → image ≡ image_of file
-    → task_of_tested (refusal_of file) file (ToRun r) ≡ Ok (Runs (record { image = image; strings = r.strings; budget = r.budget }))
+    → task_of_tested (refusal_of file) file (ToRun r) ≡ Ok (Runs (record { image = image; strings = r.strings; budget = r.budget; tool = meaning_of image r.tool }))
 tested_ok file r image none le same =
-    by_size file r false none (grind (arith, nat_tests)) ∙ ap (λ (i : ImageFields). Ok (Runs (record { image = i; strings = r.strings; budget = r.budget }))) (sym same)
+    by_size file r false none (grind (arith, nat_tests)) ∙ ap (λ (i : ImageFields). Ok (Runs (record { image = i; strings = r.strings; budget = r.budget; tool = meaning_of i r.tool }))) (sym same)
 
 -- and an image whose code is shown
 pub tested_shown : (file name : List ℕ) (image : ImageFields) → refusal_of file ≡ None → image ≡ image_of file → task_of_tested (refusal_of file) file (ToView name) ≡ Ok (Shows image)
@@ -101,10 +102,10 @@ ready_unread file a refusals.NotBuilt gives = absurd gives
 pub given_file : (file given : List ℕ) (a : Asked) → given ≡ file → length file ≤ most_file → task_of_tested (refusal_of given) given a ≡ task_of_file file a
 given_file file given a same le = ap (λ (f : List ℕ). task_of_tested (refusal_of f) f a) same ∙ sym (read_file file a le)
 
-pub ready_loaded : (file given : List ℕ) (q : Request) (strings : List (List ℕ)) (r : Result Loaded Refusal) → given ≡ file → length file ≤ most_file → LoadGives (task_of_tested (refusal_of given) given (ToRun q)) strings q.budget r
-    → LoadGives (task_of_file file (ToRun q)) strings q.budget r
+pub ready_loaded : (file given : List ℕ) (q : Request) (strings : List (List ℕ)) (r : Result Loaded Refusal) → given ≡ file → length file ≤ most_file → LoadGives (task_of_tested (refusal_of given) given (ToRun q)) strings q.budget q.tool r
+    → LoadGives (task_of_file file (ToRun q)) strings q.budget q.tool r
 ready_loaded file given q strings r same le gives =
-    subst (λ (p : Result Task Refusal). LoadGives p strings q.budget r) (given_file file given (ToRun q) same le) gives
+    subst (λ (p : Result Task Refusal). LoadGives p strings q.budget q.tool r) (given_file file given (ToRun q) same le) gives
 
 pub ready_shown : (file given name : List ℕ) (r : Result (Vec ℕ Global) Refusal) → given ≡ file → length file ≤ most_file → TextGives (task_of_tested (refusal_of given) given (ToView name)) r → TextGives (task_of_file file (ToView name)) r
 ready_shown file given name r same le gives = subst (λ (p : Result Task Refusal). TextGives p r) (given_file file given (ToView name) same le) gives

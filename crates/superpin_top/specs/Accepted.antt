@@ -1,8 +1,9 @@
 -- The words that are accepted, form by form.
-use Rattle.std.specs.Prelude.{◌≡◌, ◌≢◌, ◌⊎◌, ℕ, ◌<◌, ◌≤◌, List, [], ◌∷◌, ◌++◌, length, codes}
-use Rattle.std.specs.List.{All}
+use Rattle.std.specs.Prelude.{◌≡◌, ◌≢◌, ℕ, ◌<◌, ◌≤◌, List, [], ◌∷◌, ◌++◌, length, codes}
+use Rattle.std.specs.List.{All, flat_map}
 use Rattle.std.specs.Fmt.{decimal}
-use Rattle.superpin_top.specs.Words.{Asked, ToRun, ToView, Request, most_budget, default_budget}
+use Rattle.superpin_top.specs.Words.{Asked, ToRun, ToView, Request, default_budget, default_tool, most_budget, tool_word}
+use Rattle.superpin_top.specs.declared.tools.ToolName.{ToolName}
 
 -- a word that does not begin with a hyphen; the empty word is one
 abbrev pub IsPlain : List ℕ → Type 0
@@ -16,21 +17,46 @@ IsCommand strings = (0 < length strings) × All IsPlain strings
 abbrev pub IsBudget : ℕ → Type 0
 IsBudget n = (1 ≤ n) × (n ≤ most_budget)
 
--- `run --by serial PROGRAM ARGUMENTS..`, with the budget that stands where none is named
-abbrev pub IsWithoutBudget : List (List ℕ) → Request → Type 0
-IsWithoutBudget words r = (words ≡ codes "run" ∷ codes "--by" ∷ codes "serial" ∷ r.strings) × (r.budget ≡ default_budget)
+-- an option of a run, with its value
+pub data RunOption : Type 0 where
+  BySerial : RunOption
+  Budget : (n : ℕ) → RunOption
+  OfTool : (tool : ToolName) → RunOption
 
--- `run --by serial --budget N PROGRAM ARGUMENTS..`, N in decimal with no sign and no leading zero
-abbrev pub IsWithBudgetBehind : List (List ℕ) → Request → Type 0
-IsWithBudgetBehind words r = (words ≡ codes "run" ∷ codes "--by" ∷ codes "serial" ∷ codes "--budget" ∷ decimal r.budget ∷ r.strings) × IsBudget r.budget
+-- `--by serial`; `--budget N`, N in decimal with no sign and no leading zero; `--tool NAME`
+abbrev pub option_words : RunOption → List (List ℕ)
+option_words BySerial = codes "--by" ∷ codes "serial" ∷ []
+option_words (Budget n) = codes "--budget" ∷ decimal n ∷ []
+option_words (OfTool tool) = codes "--tool" ∷ tool_word tool ∷ []
 
--- `run --budget N --by serial PROGRAM ARGUMENTS..`, likewise
-abbrev pub IsWithBudgetBefore : List (List ℕ) → Request → Type 0
-IsWithBudgetBefore words r = (words ≡ codes "run" ∷ codes "--budget" ∷ decimal r.budget ∷ codes "--by" ∷ codes "serial" ∷ r.strings) × IsBudget r.budget
+-- what options say, each of its kind
+abbrev pub serial_in : RunOption → List RunOption
+serial_in BySerial = BySerial ∷ []
+serial_in option = []
 
--- `run`, then `--by serial`, with `--budget N` before or behind it or left out, then the program's name and arguments
-abbrev pub AreRun : List (List ℕ) → Request → Type 0
-AreRun words r = IsCommand r.strings × (IsWithoutBudget words r ⊎ (IsWithBudgetBehind words r ⊎ IsWithBudgetBefore words r))
+abbrev pub budget_in : RunOption → List ℕ
+budget_in (Budget n) = n ∷ []
+budget_in option = []
+
+abbrev pub tool_in : RunOption → List ToolName
+tool_in (OfTool tool) = tool ∷ []
+tool_in option = []
+
+-- these values name x: there is one of them at most, and where there is none, x is what stands then
+abbrev pub Names : {X : Type 0} → List X → X → X → Type 0
+Names [] instead x = x ≡ instead
+Names (y ∷ []) instead x = x ≡ y
+Names (y ∷ z ∷ rest) instead x = ⊥
+
+-- `run`, then options in any order, each once at most and `--by serial` among them, then the program's name and arguments
+pub record AreRun (words : List (List ℕ)) (r : Request) : Type 0 where
+  pub options : List RunOption
+  pub words_are : words ≡ codes "run" ∷ flat_map option_words options ++ r.strings
+  pub serial : flat_map serial_in options ≡ BySerial ∷ []
+  pub budget : Names (flat_map budget_in options) default_budget r.budget
+  pub allowed : IsBudget r.budget
+  pub tool : Names (flat_map tool_in options) default_tool r.tool
+  pub command : IsCommand r.strings
 
 -- `view FILE`
 abbrev pub AreView : List (List ℕ) → List ℕ → Type 0

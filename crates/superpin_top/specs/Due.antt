@@ -17,8 +17,10 @@ use Rattle.sp_report.specs.declared.answer.Answer.TheVariants.{Ended, Refused}
 use Rattle.sp_report.specs.declared.answer.Refusal.{Refusal}
 use Rattle.sp_report.specs.declared.answer.Refusal.TheVariants as refusals
 use Rattle.superpin_top.specs.Words.{Asked, ToRun, ToView, asked}
-use Rattle.superpin_top.specs.Report.{count_of, report_of}
-use Rattle.superpin_top.specs.Start.{Run, start_of}
+use Rattle.serial_run.specs.Start.{start_of}
+use Rattle.superpin_top.specs.Report.{report_of}
+use Rattle.superpin_top.specs.Start.{Run, ToolMeaning}
+use Rattle.superpin_top.specs.Tools.{meaning_of}
 
 pub record Due : Type 0 where
   pub answer : Answer
@@ -29,11 +31,12 @@ pub record Due : Type 0 where
   -- what is left of the input and of the moments
   pub left : World
 
--- an accepted program: its image, the strings that it gets, and the most steps of its run
+-- an accepted program: its image, the strings that it gets, the most steps of its run, and the tool
 pub record Program : Type 0 where
   pub image : ImageFields
   pub strings : List (List ℕ)
   pub budget : ℕ
+  pub tool : ToolMeaning
 
 -- what is to be done: a program runs, or the code of an image is shown
 pub data Task : Type 0 where
@@ -53,7 +56,7 @@ file_asked (ToView file) = file
 abbrev pub task_of_image : List ℕ → Asked → Result Task Refusal
 task_of_image file (ToRun r) =
     if nat_lt MOST_STRINGS (strings_size r.strings) then Err (refusals.ArgsTooLong (min (strings_size r.strings) (2 ^ 64 - 1)))
-    else Ok (Runs (record { image = image_of file; strings = r.strings; budget = r.budget }))
+    else Ok (Runs (record { image = image_of file; strings = r.strings; budget = r.budget; tool = meaning_of (image_of file) r.tool }))
 task_of_image file (ToView name) = Ok (Shows (image_of file))
 
 -- the first fault of the file, if it has one
@@ -78,7 +81,7 @@ task_of words files = task_of_asked (asked words) files
 
 -- its run, with this input and these moments
 abbrev pub run_of_program : Program → World → Run
-run_of_program p w = record { image = p.image; start = start_of (machine_of p.image p.strings) w; budget = p.budget }
+run_of_program p w = record { tool = p.tool; start = start_of (machine_of p.image p.strings) w; budget = p.budget }
 
 -- what is due where nothing is reported but a refusal, and where the run sent these bytes
 abbrev pub due_refused : Refusal → List Sent → World → Due
@@ -95,7 +98,7 @@ due_ended (Unsupported number pc) report sent left = due_refused (refusals.Unsup
 
 abbrev pub due_state : Run → RunState Position End → List TraceItem → List Sent → Due
 due_state r (Running p) items sent = due_refused (refusals.BudgetSpent r.budget) sent p.world
-due_state r (RunEnded p end) items sent = due_ended end (report_of (count_of r.image items) end) sent p.world
+due_state r (RunEnded p end) items sent = due_ended end (report_of (r.tool.text items) end) sent p.world
 
 abbrev pub due_run : Run → Due
 due_run r = due_state r (run_of r.budget r.start) (trace_of r.budget r.start) (sent_of r.budget r.start)

@@ -2,8 +2,8 @@ pub mod Words
 pub mod Accepted
 pub mod Report
 pub mod Start
+pub mod Tools
 pub mod Due
-pub mod Run
 pub mod Causes
 pub mod Outcome
 pub mod Top

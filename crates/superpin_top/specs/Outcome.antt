@@ -13,8 +13,9 @@ use Rattle.sp_report.specs.declared.answer.Answer.{Answer}
 use Rattle.sp_report.specs.declared.answer.Answer.TheVariants.{Ended, Refused}
 use Rattle.sp_report.specs.declared.answer.Refusal.{Refusal}
 use Rattle.sp_report.specs.declared.answer.Refusal.TheVariants as refusals
-use Rattle.superpin_top.specs.Run.{LacksMemory, StopsInput, StepBefore}
-use Rattle.superpin_top.specs.Start.{Run}
+use Rattle.serial_run.specs.Run.{StepBefore}
+use Rattle.serial_run.specs.Steps.{StopsInput, WantsMemory}
+use Rattle.superpin_top.specs.Start.{Run, steps_of}
 use Rattle.superpin_top.specs.Due.{Due, Program, Task, Runs, Shows, delivered, due_run, due_task, run_of_program}
 use Rattle.superpin_top.specs.Causes.{CausedBy, is_early, is_of_run}
 
@@ -41,18 +42,19 @@ OfText task P = (image : ImageFields) × (task ≡ Ok (Shows image)) × P (view_
 -- what it asks for was taken from the input. After an output fault of a run they are the bytes of the steps before a call that
 -- writes, and a proper beginning of that call's; where a text is shown, a proper beginning of it on the standard output. After
 -- a report fault they are the whole run's, and a proper beginning of the report. Memory is wanting before a run, or before a
--- text is written, where nothing was written; before a call that takes memory; or after a run that ended.
+-- text is written, where nothing was written; before a call that takes memory; before or behind a step, where the tool may take
+-- memory for an event; or after a run that ended.
 abbrev pub Refuses : Told → Result Task Refusal → World → Refusal → Told → Type 0
 Refuses t task w refusals.FileFault new = new ≡ t
-Refuses t task w refusals.InputFault new = OfRun task w (λ r. StepBefore r (λ q before. StopsInput t q before new))
+Refuses t task w refusals.InputFault new = OfRun task w (λ r. StepBefore (steps_of r) (λ q before. StopsInput t q before new))
 Refuses t task w (refusals.OutputFault port) new =
-    (OfRun task w (λ r. StepBefore r (λ q before. PartWritten t q.world before port (sent_at q) new)))
+    (OfRun task w (λ r. StepBefore (steps_of r) (λ q before. PartWritten t q.world before port (sent_at q) new)))
     ⊎ (OfText task (λ text. (port ≡ Out) × PartSent Out text t new))
 Refuses t task w refusals.ReportFault new =
     (status : ℕ) × ((due_task task w).answer ≡ Ended status []) × PartSent Report (due_task task w).report (delivered t (due_task task w) []) new
 Refuses t task w refusals.NoMemory new =
     (new ≡ t)
-    ⊎ (OfRun task w (λ r. StepBefore r (λ q before. LacksMemory t q before new))
+    ⊎ (OfRun task w (λ r. StepBefore (steps_of r) (λ q before. WantsMemory r.tool.grows t q before new))
     ⊎ OfRun task w (λ r. (status : ℕ) × ((due_run r).answer ≡ Ended status []) × (new ≡ delivered t (due_run r) [])))
 Refuses t task w refusal new = IsDue t (due_task task w) (Refused refusal) new
 

@@ -1,16 +1,19 @@
--- What a run begins with.
-use Rattle.std.specs.Prelude.{ℕ}
-use Rattle.elf_load.specs.Image.{ImageFields}
-use Rattle.guest_model.specs.Call.{World}
-use Rattle.guest_model.specs.Machine.{Machine}
-use Rattle.guest_model.specs.Serial.{Position}
+-- A run with a tool.
+use Rattle.std.specs.Prelude.{ℕ, Bool, List}
+use Rattle.guest_model.specs.Serial.{Position, TraceItem}
+use Rattle.serial_run.specs.Start.{Run as Steps}
 
--- a run: the image of its program, the position at which it begins, and the most steps
+-- what a tool means: the text of what it counts of a trace, and whether it may take memory for an event
+pub record ToolMeaning : Type 0 where
+  pub text : List TraceItem → List ℕ
+  pub grows : Bool
+
+-- a run: its tool, the position at which it begins, and the most steps
 pub record Run : Type 0 where
-  pub image : ImageFields
+  pub tool : ToolMeaning
   pub start : Position
   pub budget : ℕ
 
--- position 0, at which no call went on yet
-abbrev pub start_of : Machine → World → Position
-start_of m w = record { machine = m; world = w; calls = 0 }
+-- its steps
+abbrev pub steps_of : Run → Steps
+steps_of r = record { start = r.start; budget = r.budget }

@@ -9,6 +9,8 @@ use Rattle.sp_report.specs.declared.answer.Refusal.{Refusal}
 use Rattle.sp_report.specs.declared.answer.Refusal.TheVariants as refusals
 use Rattle.superpin_top.specs.Due.{Task, Runs}
 use Rattle.superpin_top.specs.Outcome.{OfText}
+use Rattle.superpin_top.specs.Tools.{meaning_of}
+use Rattle.superpin_top.specs.declared.tools.ToolName.{ToolName}
 use Rattle.superpin_top.specs.declared.top.Loaded.{Loaded}
 
 -- the bytes of a file, or that they are too many
@@ -36,10 +38,10 @@ ImageGives file (Err refusals.NoMemory) = Unit {0}
 ImageGives file (Err _) = ⊥
 
 -- the loaded program, or the refusal before its run
-abbrev pub LoadGives : Result Task Refusal → List (List ℕ) → ℕ → Result Loaded Refusal → Type 0
-LoadGives task strings budget (Ok loaded) =
-    (task ≡ Ok (Runs (record { image = loaded.image; strings = strings; budget = budget }))) × (loaded.guest.machine ≡ machine_of loaded.image strings)
-LoadGives task strings budget (Err refusal) = IsBefore task refusal
+abbrev pub LoadGives : Result Task Refusal → List (List ℕ) → ℕ → ToolName → Result Loaded Refusal → Type 0
+LoadGives task strings budget tool (Ok loaded) =
+    (task ≡ Ok (Runs (record { image = loaded.image; strings = strings; budget = budget; tool = meaning_of loaded.image tool }))) × (loaded.guest.machine ≡ machine_of loaded.image strings)
+LoadGives task strings budget tool (Err refusal) = IsBefore task refusal
 
 -- the text that is to be shown, or the refusal before it is written
 abbrev pub TextGives : Result Task Refusal → Result (Vec ℕ Global) Refusal → Type 0

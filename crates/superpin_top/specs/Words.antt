@@ -5,6 +5,8 @@ use Rattle.std.specs.Option.{unwrap_or}
 use Rattle.std.specs.Str.Parse.{IsNumeral, digits_value, without_leading_plus}
 use Rattle.std.specs.declared.alloc.Global.{Global}
 use Rattle.std.specs.Cmp.Lexicographic.{pointwise}
+use Rattle.superpin_top.specs.declared.tools.ToolName.{ToolName}
+use Rattle.superpin_top.specs.declared.tools.ToolName.TheVariants.{Icount, Bcount, Mix, Blocks}
 use Rattle.superpin_top.specs.declared.words.Options.{Options}
 
 -- the bytes of each word
@@ -14,9 +16,10 @@ texts words = map (λ w. string_bytes w) words
 abbrev pub is_word : List ℕ → List ℕ → Bool
 is_word word bytes = pointwise nat_eq word bytes
 
--- a run that is asked for: the most steps, and the strings that the program gets, the first of which names its file
+-- a run that is asked for: the most steps, the tool, and the strings that the program gets, the first of which names its file
 pub record Request : Type 0 where
   pub budget : ℕ
+  pub tool : ToolName
   pub strings : List (List ℕ)
 
 -- what the words ask for: a run, or the text of the code of the file of this name
@@ -24,9 +27,9 @@ pub data Asked : Type 0 where
   ToRun : (request : Request) → Asked
   ToView : (file : List ℕ) → Asked
 
--- no option was given yet: the run is not asked to be serial, and no most steps are named
+-- no option was given yet: the run is not asked to be serial, and no most steps and no tool are named
 abbrev pub no_options : Options
-no_options = record { serial = false; budget = None }
+no_options = record { serial = false; budget = None; tool = None }
 
 -- the most steps that can be asked for, and those where none are
 abbrev pub most_budget : ℕ
@@ -50,6 +53,25 @@ IsUnread word = IsNumeral 10 (without_leading_plus word) × (digits_value 10 (wi
 unfoldable pub budget_of : List ℕ → Option ℕ
 budget_of word = if is_number word && nat_le (digits_value 10 word) most_budget then Some (digits_value 10 word) else None
 
+-- the word of each tool
+abbrev pub tool_word : ToolName → List ℕ
+tool_word Icount = codes "icount"
+tool_word Bcount = codes "bcount"
+tool_word Mix = codes "mix"
+tool_word Blocks = codes "blocks"
+
+-- the tool that a word names, and the one where none is named
+unfoldable pub tool_named : List ℕ → Option ToolName
+tool_named word =
+    if is_word word (tool_word Icount) then Some Icount
+    else if is_word word (tool_word Bcount) then Some Bcount
+    else if is_word word (tool_word Mix) then Some Mix
+    else if is_word word (tool_word Blocks) then Some Blocks
+    else None
+
+abbrev pub default_tool : ToolName
+default_tool = Icount
+
 -- a word that is no option: it does not begin with a hyphen
 abbrev pub is_plain : List ℕ → Bool
 is_plain word = not (slice_index word 0 == 45)
@@ -59,7 +81,7 @@ abbrev pub is_form : Options → List (List ℕ) → Bool
 is_form o words = (not (length words == 0) && o.serial) && list_all is_plain words
 
 abbrev pub asked_with : Options → List (List ℕ) → Option Request
-asked_with o words = if is_form o words then Some (record { budget = unwrap_or o.budget default_budget; strings = words }) else None
+asked_with o words = if is_form o words then Some (record { budget = unwrap_or o.budget default_budget; tool = unwrap_or o.tool default_tool; strings = words }) else None
 
 -- an option with its value, which may stand once
 abbrev pub with_serial : Options → List ℕ → Option Options
@@ -69,11 +91,16 @@ abbrev pub with_budget : Options → Option ℕ → Option Options
 with_budget o None = None
 with_budget o (Some n) = if is_some o.budget then None else Some (record o { budget = Some n })
 
+abbrev pub with_tool : Options → Option ToolName → Option Options
+with_tool o None = None
+with_tool o (Some tool) = if is_some o.tool then None else Some (record o { tool = Some tool })
+
 -- the options stand first, each with its value in the next word
 abbrev pub behind_options : Options → List (List ℕ) → Option Request
 behind_options o (word ∷ value ∷ rest) =
     if is_word word (codes "--by") then option_and_then (λ p. behind_options p rest) (with_serial o value)
     else if is_word word (codes "--budget") then option_and_then (λ p. behind_options p rest) (with_budget o (budget_of value))
+    else if is_word word (codes "--tool") then option_and_then (λ p. behind_options p rest) (with_tool o (tool_named value))
     else asked_with o (word ∷ value ∷ rest)
 behind_options o words = asked_with o words
 

@@ -6,6 +6,7 @@ pub mod laws;
 mod program;
 mod report;
 mod run;
+mod tools;
 mod top;
 mod view;
 mod words;

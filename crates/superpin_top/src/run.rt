@@ -1,130 +1,114 @@
-// A guest's serial run over a host.
-ghost use Rattle.std.specs.Prelude.{◌≡◌, ◌≤◌, [], List, MatchResult, if◌then◌else◌};
-ghost use Rattle.sp_host.specs.Told.{Told};
-ghost use Rattle.guest_model.specs.Call.{World, Sent};
-ghost use Rattle.guest_model.specs.Effect.{Effect, effect_of};
-ghost use Rattle.guest_model.specs.Serial.{Position};
-ghost use Rattle.syscall_layer.specs.Serve.{told_after};
+// A program's run with a tool, and its report.
+ghost use Rattle.std.specs.Prelude.{◌≡◌, ◌≤◌, List, ℕ, IfErr, MatchResult, Ok, Some};
+ghost use Rattle.guest_model.specs.Call.{World};
+ghost use Rattle.ins_views.specs.Views.{views_of};
+ghost use Rattle.rv_machine.specs.Load.{machine_of};
 ghost use Rattle.superpin_top.specs.Causes.{CausedBy, refusal_of_run};
-ghost use Rattle.superpin_top.specs.Report.{has_word, is_in_code};
-ghost use Rattle.superpin_top.specs.Run.{StepGives, RunGives};
-ghost use Rattle.superpin_top.specs.Start.{start_of};
+ghost use Rattle.superpin_top.specs.Due.{Runs};
+ghost use Rattle.superpin_top.specs.Outcome.{AttemptGives};
+ghost use Rattle.superpin_top.specs.Tools.{meaning_of, with_calls};
+ghost use Rattle.superpin_top.specs.Top.{IsLate};
 
-use elf_load::{Image, Segment};
+use crate::report::report;
+use crate::tools::ToolName;
+use elf_load::Image;
 use guest_model::platform::MOST_PAGES;
-use rv_machine::{End, Guest, Stepped};
-use sp_host::Host;
+use ins_views::Views;
+use rv_machine::Guest;
+use serial_run::{MOST_BUDGET, run_serial};
+use sp_host::{Host, Port, write_whole};
+use sp_report::Refusal;
 use std::alloc::Global;
-use syscall_layer::{CallFault, RunFault, Served, serve};
+use syscall_layer::RunFault;
+use tool_counts::{BlockCount, BlockProfile, InsCount, OpMix};
+use tool_law::{Tool, make_plan};
 
-/// How a run ended, and how many instructions of the program it executed.
-#[derive(Clone, Copy)]
-pub(crate) struct Finish {
-    pub(crate) end: End,
-    pub(crate) count: u64,
-}
-
-#[derive(Clone, Copy)]
-pub(crate) enum Turn {
-    Next,
-    Over(End),
-}
-
-// The call at which the guest stands.
-fn call<H: Host>(alloc: Global, host: &mut H, guest: &mut Guest) -> Result<Turn, RunFault>
-    requires call { effect_of guest.old.machine ≡ Effect.Call }
-    requires frames { MOST_PAGES ≤ guest.old.frames.count }
-    ensures told { (t : Told) (p : Position) (before : List Sent) → p.machine ≡ guest.old.machine →
-        H.told host.old ≡ told_after t p.world before →
-        StepGives t p before result guest.new.machine (H.told host.new) }
-    ensures faults { MatchResult result (λ _. H.faults host.new ≡ H.faults host.old)
-        (λ e. CausedBy (refusal_of_run e) (H.faults host.old) (H.faults host.new)) }
-    ensures count { guest.new.frames.count ≡ guest.old.frames.count }
+// The refusal of a fault of the run.
+fn refusal_of_run(fault: RunFault) -> Refusal
+    ensures { result ≡ refusal_of_run fault }
 {
-    match serve(alloc, guest, host) {
-        Ok(Served::Went(_)) => Ok(Turn::Next),
-        Ok(Served::Exit(status)) => Ok(Turn::Over(End::Exit(status))),
-        Err(CallFault::Unsupported { number }) => Err(RunFault::Unsupported {
-            number,
-            pc: guest.pc(),
-        }),
-        Err(CallFault::InputFault) => Err(RunFault::InputFault),
-        Err(CallFault::OutputFault { port }) => Err(RunFault::OutputFault { port }),
-        Err(CallFault::NoMemory) => Err(RunFault::NoMemory),
+    match fault {
+        RunFault::Unsupported { number, pc } => Refusal::UnsupportedCall { number, pc },
+        RunFault::BudgetSpent { n } => Refusal::BudgetSpent { n },
+        RunFault::InputFault => Refusal::InputFault,
+        RunFault::OutputFault { port } => Refusal::OutputFault { port },
+        RunFault::NoMemory => Refusal::NoMemory,
     }
 }
 
-// One step of the run.
-fn step<H: Host>(alloc: Global, host: &mut H, guest: &mut Guest) -> Result<Turn, RunFault>
-    requires frames { MOST_PAGES ≤ guest.old.frames.count }
-    ensures told { (t : Told) (p : Position) (before : List Sent) → p.machine ≡ guest.old.machine →
-        H.told host.old ≡ told_after t p.world before →
-        StepGives t p before result guest.new.machine (H.told host.new) }
-    ensures faults { MatchResult result (λ _. H.faults host.new ≡ H.faults host.old)
-        (λ e. CausedBy (refusal_of_run e) (H.faults host.old) (H.faults host.new)) }
-    ensures count { guest.new.frames.count ≡ guest.old.frames.count }
-{
-    match guest.step() {
-        Stepped::Next => Ok(Turn::Next),
-        Stepped::Call => call(alloc, host, guest),
-        Stepped::Fault(kind) => Ok(Turn::Over(End::Signal {
-            kind,
-            pc: guest.pc(),
-        })),
-    }
-}
-
-// Whether the four bytes from an address on lie in this segment, and it is code.
-fn has_word(segment: &Segment, pc: u32) -> bool
-    ensures { result ≡ has_word pc segment.now }
-{
-    segment.flags & 1 != 0
-        && segment.start <= pc
-        && pc as u64 + 4 <= segment.start as u64 + segment.size as u64
-}
-
-// Whether an address is one of an instruction of the program.
-fn is_in_code(segments: &[Segment], pc: u32) -> bool
-    ensures { result ≡ is_in_code segments.now pc }
-{
-    segments.iter().any(|segment| has_word(segment, pc))
-}
-
-// 1 for an address of an instruction of the program, 0 for another.
-fn counted(segments: &[Segment], pc: u32) -> u64
-    ensures { result ≡ if is_in_code segments.now pc then 1 else 0 }
-{
-    if is_in_code(segments, pc) { 1 } else { 0 }
-}
-
-/// Runs the guest of an image, which has a frame for each page that can be mapped, for at most
-/// `budget` steps.
-pub(crate) fn execute<H: Host>(
+// The run of a program with this tool, and its report.
+fn run_with<T: Tool, H: Host>(
     alloc: Global,
     host: &mut H,
     image: &Image,
-    guest: &mut Guest,
+    guest: Guest,
     budget: u64,
-) -> Result<Finish, RunFault>
-    requires frames { MOST_PAGES ≤ guest.old.frames.count }
-    ensures told { (t : Told) (w : World) → H.told host.old ≡ told_after t w [] →
-        RunGives t (record { image = image.now; start = start_of guest.old.machine w; budget = budget })
-        result (H.told host.new) }
+    tool: &T,
+) -> Result<u8, Refusal>
+    requires frames { MOST_PAGES ≤ guest.frames.count }
+    requires budget { budget ≤ MOST_BUDGET }
+    ensures told { (w : World) (strings : List (List ℕ))
+        → (H.told host.old).input ≡ Some w.input → (H.told host.old).moments ≡ Some w.moments
+        → guest.machine ≡ machine_of image.now strings →
+        AttemptGives (H.told host.old) (Ok (Runs (record {
+          image = image.now;
+          strings = strings;
+          budget = budget;
+          tool = with_calls (views_of image.now) T.GROWS (T.calls_of tool.now)
+              (λ xs. T.text_of tool.now (views_of image.now) (T.value tool.now xs));
+        })))
+        w result (H.told host.new) }
     ensures faults { MatchResult result (λ _. H.faults host.new ≡ H.faults host.old)
-        (λ e. CausedBy (refusal_of_run e) (H.faults host.old) (H.faults host.new)) }
+        (λ e. CausedBy e (H.faults host.old) (H.faults host.new)) }
+    ensures late { IfErr result IsLate }
 {
-    let mut count = 0;
-    for steps in 0..budget {
-        let pc = guest.pc();
-        match step(alloc, host, guest)? {
-            Turn::Next => count += counted(&image.segments, pc),
-            Turn::Over(end) => {
-                if guest.peek().is_some() {
-                    count += counted(&image.segments, pc);
-                }
-                return Ok(Finish { end, count });
-            }
-        }
+    let Ok(views) = Views::new(alloc, image) else {
+        return Err(Refusal::NoMemory);
+    };
+    let Ok(plan) = make_plan(alloc, &views, tool) else {
+        return Err(Refusal::NoMemory);
+    };
+    let finished = match run_serial(alloc, &plan, &views, guest, budget, tool, host) {
+        Ok(finished) => finished,
+        Err(fault) => return Err(refusal_of_run(fault)),
+    };
+    let Ok(text) = report(alloc, tool, &views, &finished.shared, &finished.end) else {
+        return Err(Refusal::NoMemory);
+    };
+    match write_whole(host, Port::Report, &text) {
+        Ok(()) => Ok(finished.end.status()),
+        Err(_) => Err(Refusal::ReportFault),
     }
-    Err(RunFault::BudgetSpent { n: budget })
+}
+
+/// The run of a program, and its report.
+pub(crate) fn run_loaded<H: Host>(
+    alloc: Global,
+    host: &mut H,
+    image: &Image,
+    guest: Guest,
+    budget: u64,
+    tool: ToolName,
+) -> Result<u8, Refusal>
+    requires frames { MOST_PAGES ≤ guest.frames.count }
+    requires budget { budget ≤ MOST_BUDGET }
+    ensures told { (w : World) (strings : List (List ℕ))
+        → (H.told host.old).input ≡ Some w.input → (H.told host.old).moments ≡ Some w.moments
+        → guest.machine ≡ machine_of image.now strings →
+        AttemptGives (H.told host.old) (Ok (Runs (record {
+          image = image.now;
+          strings = strings;
+          budget = budget;
+          tool = meaning_of image.now tool;
+        }))) w result (H.told host.new) }
+    ensures faults { MatchResult result (λ _. H.faults host.new ≡ H.faults host.old)
+        (λ e. CausedBy e (H.faults host.old) (H.faults host.new)) }
+    ensures late { IfErr result IsLate }
+{
+    match tool {
+        ToolName::Icount => run_with(alloc, host, image, guest, budget, &InsCount),
+        ToolName::Bcount => run_with(alloc, host, image, guest, budget, &BlockCount),
+        ToolName::Mix => run_with(alloc, host, image, guest, budget, &OpMix),
+        ToolName::Blocks => run_with(alloc, host, image, guest, budget, &BlockProfile),
+    }
 }

@@ -4,44 +4,29 @@ ghost use Rattle.std.specs.Prelude.{None, Ok, Err, IfOk, IfErr, MatchResult};
 ghost use Rattle.sp_host.specs.Told.{Told, WhereTold};
 ghost use Rattle.sp_host.specs.Faults.{To, count_of};
 ghost use Rattle.elf_load.specs.Elf.{refusal_of};
-ghost use Rattle.guest_model.specs.Call.{World};
-ghost use Rattle.syscall_layer.specs.Serve.{told_after};
-ghost use Rattle.superpin_top.specs.Causes.{CausedBy, cause_of, refusal_of_run};
-ghost use Rattle.superpin_top.specs.Due.{Runs, due_of, task_in, task_of, task_of_tested};
+ghost use Rattle.superpin_top.specs.Causes.{CausedBy, cause_of};
+ghost use Rattle.superpin_top.specs.Due.{due_of, task_in, task_of, task_of_tested};
 ghost use Rattle.superpin_top.specs.Outcome.{WhereAllTold, AttemptGives, WritesLine, Outcome};
 ghost use Rattle.superpin_top.specs.Outcome.{CanRise};
 ghost use Rattle.superpin_top.specs.Outcome.{NoneRose, IsDelivered, IsDecided, IsEarly, IsCaused};
 ghost use Rattle.superpin_top.specs.Outcome.{AddsFront};
 ghost use Rattle.superpin_top.specs.Outcome.{IsEndedWhereNone};
 ghost use Rattle.superpin_top.specs.Words.{ToRun, asked, texts};
-ghost use Rattle.superpin_top.specs.Top.{IsBuilt, IsLate, LoadGives};
-ghost use Rattle.rv_machine.specs.Load.{machine_of};
+ghost use Rattle.superpin_top.specs.Top.{IsBuilt, LoadGives};
+ghost use Rattle.superpin_top.specs.declared.tools.ToolName.{ToolName};
 
 use crate::file::{load_image, read_program};
-use crate::report::report;
-use crate::run::execute;
+use crate::run::run_loaded;
+use crate::tools::ToolName;
 use crate::view::view_asked;
 use crate::words::{asked_run, asked_view};
 use elf_load::Image;
 use guest_model::platform::MOST_PAGES;
 use rv_machine::{Guest, LoadFault};
+use serial_run::MOST_BUDGET;
 use sp_host::{Host, Pacer, Port, write_whole};
 use sp_report::{Answer, Cuts, Refusal, refusal_line};
 use std::alloc::Global;
-use syscall_layer::RunFault;
-
-// The refusal of a fault of the run.
-fn refusal_of_run(fault: RunFault) -> Refusal
-    ensures { result ≡ refusal_of_run fault }
-{
-    match fault {
-        RunFault::Unsupported { number, pc } => Refusal::UnsupportedCall { number, pc },
-        RunFault::BudgetSpent { n } => Refusal::BudgetSpent { n },
-        RunFault::InputFault => Refusal::InputFault,
-        RunFault::OutputFault { port } => Refusal::OutputFault { port },
-        RunFault::NoMemory => Refusal::NoMemory,
-    }
-}
 
 // A program that was accepted, at the start of its run.
 #[derive(Drop)]
@@ -52,10 +37,10 @@ pub(crate) struct Loaded {
 
 // The program of a file, at the start of its run, with these strings.
 fn start(alloc: Global, file: &[u8], strings: &[String]) -> Result<Loaded, Refusal>
-    ensures loaded { (budget : ℕ) →
+    ensures loaded { (budget : ℕ) (tool : ToolName) →
         LoadGives (task_of_tested (refusal_of file.now) file.now
-        (ToRun (record { budget = budget; strings = texts strings.now })))
-        (texts strings.now) budget result }
+        (ToRun (record { budget = budget; tool = tool; strings = texts strings.now })))
+        (texts strings.now) budget tool result }
     ensures frames { IfOk result (λ loaded. MOST_PAGES ≤ loaded.guest.frames.count) }
     ensures cause { IfErr result (λ e. cause_of e ≡ None) }
     ensures built { IfErr result IsBuilt }
@@ -75,9 +60,10 @@ fn start(alloc: Global, file: &[u8], strings: &[String]) -> Result<Loaded, Refus
 fn ready<H: Host>(alloc: Global, strings: &[String], host: &mut H) -> Result<Loaded, Refusal>
     requires { 0 < length strings.now }
     ensures told { H.told host.new ≡ H.told host.old }
-    ensures loaded { (budget : ℕ) → WhereTold (H.told host.old).files (λ files.
-        LoadGives (task_in files (ToRun (record { budget = budget; strings = texts strings.now })))
-        (texts strings.now) budget result) }
+    ensures loaded { (budget : ℕ) (tool : ToolName) → WhereTold (H.told host.old).files (λ files.
+        LoadGives (task_in files
+        (ToRun (record { budget = budget; tool = tool; strings = texts strings.now })))
+        (texts strings.now) budget tool result) }
     ensures frames { IfOk result (λ loaded. MOST_PAGES ≤ loaded.guest.frames.count) }
     ensures faults { MatchResult result (λ _. H.faults host.new ≡ H.faults host.old)
         (λ e. CausedBy e (H.faults host.old) (H.faults host.new)) }
@@ -90,58 +76,30 @@ fn ready<H: Host>(alloc: Global, strings: &[String], host: &mut H) -> Result<Loa
     start(alloc, &file, strings)
 }
 
-// The run of a program, and its report.
-fn run_loaded<H: Host>(
-    alloc: Global,
-    host: &mut H,
-    loaded: Loaded,
-    budget: u64,
-) -> Result<u8, Refusal>
-    requires frames { MOST_PAGES ≤ loaded.guest.frames.count }
-    ensures told { (t : Told) (w : World) (strings : List (List ℕ))
-        → H.told host.old ≡ told_after t w [] →
-        loaded.guest.machine ≡ machine_of loaded.image strings →
-        AttemptGives t
-        (Ok (Runs (record { image = loaded.image; strings = strings; budget = budget }))) w
-        result (H.told host.new) }
-    ensures faults { MatchResult result (λ _. H.faults host.new ≡ H.faults host.old)
-        (λ e. CausedBy e (H.faults host.old) (H.faults host.new)) }
-    ensures late { IfErr result IsLate }
-{
-    let Loaded { image, mut guest } = loaded;
-    let finish = match execute(alloc, host, &image, &mut guest, budget) {
-        Ok(finish) => finish,
-        Err(fault) => return Err(refusal_of_run(fault)),
-    };
-    let Ok(text) = report(alloc, &finish) else {
-        return Err(Refusal::NoMemory);
-    };
-    match write_whole(host, Port::Report, &text) {
-        Ok(()) => Ok(finish.end.status()),
-        Err(_) => Err(Refusal::ReportFault),
-    }
-}
-
 // The run that is asked for, with its report.
 fn run_asked<H: Host>(
     alloc: Global,
     strings: &[String],
     budget: u64,
+    tool: ToolName,
     host: &mut H,
 ) -> Result<u8, Refusal>
-    requires { 0 < length strings.now }
-    ensures early { WhereTold (H.told host.old).files (λ files.
-        IsDecided (task_in files (ToRun (record { budget = budget; strings = texts strings.now })))
-        result) }
+    requires some { 0 < length strings.now }
+    requires budget { budget ≤ MOST_BUDGET }
+    ensures early { WhereTold (H.told host.old).files (λ files. IsDecided (task_in files
+        (ToRun (record { budget = budget; tool = tool; strings = texts strings.now }))) result) }
     ensures told { WhereAllTold (H.told host.old) (λ files w. AttemptGives (H.told host.old)
-        (task_in files (ToRun (record { budget = budget; strings = texts strings.now })))
+        (task_in files (ToRun (record { budget = budget; tool = tool; strings = texts strings.now })))
         w result (H.told host.new)) }
     ensures faults { MatchResult result (λ _. H.faults host.new ≡ H.faults host.old)
         (λ e. CausedBy e (H.faults host.old) (H.faults host.new)) }
     ensures built { IfErr result IsBuilt }
 {
     match ready(alloc, strings, host) {
-        Ok(loaded) => run_loaded(alloc, host, loaded, budget),
+        Ok(loaded) => {
+            let Loaded { image, guest } = loaded;
+            run_loaded(alloc, host, &image, guest, budget, tool)
+        }
         Err(refusal) => Err(refusal),
     }
 }
@@ -157,7 +115,7 @@ fn attempt<H: Host>(alloc: Global, words: &[String], host: &mut H) -> Result<u8,
         (λ e. CausedBy e (H.faults host.old) (H.faults host.new)) }
 {
     if let Some(asked) = asked_run(words) {
-        return run_asked(alloc, asked.strings, asked.budget, host);
+        return run_asked(alloc, asked.strings, asked.budget, asked.tool, host);
     }
     match asked_view(words) {
         Some(name) => view_asked(alloc, name, host),
@@ -176,7 +134,7 @@ pub(crate) fn refuse<H: Host>(host: &mut H, refusal: &Refusal)
     }
 }
 
-/// Does what the words ask for. `run --by serial [--budget N] FILE [ARGS]`: the run's bytes go to
+/// Does what the words ask for. `run --by serial [--budget N] [--tool NAME] FILE [ARGS]`: the run's bytes go to
 /// the host's standard output and standard error, and its report to the port of reports. `view
 /// FILE`: the text of the file's code goes to the standard output. The line of a refusal goes to
 /// the port of reports. The pacer is not asked.

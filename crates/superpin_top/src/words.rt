@@ -4,8 +4,10 @@ ghost use Rattle.std.specs.Prelude.{string_bytes};
 ghost use Rattle.std.specs.List.{list_all};
 ghost use Rattle.std.specs.Str.Parse.{digits_value, without_leading_plus};
 ghost use Rattle.superpin_top.specs.Words.{texts, is_digit, IsUnread, is_number, budget_of};
-ghost use Rattle.superpin_top.specs.Words.{is_plain, with_serial, with_budget, is_form, asked_with};
+ghost use Rattle.superpin_top.specs.Words.{is_plain, with_serial, with_budget, with_tool, is_form, asked_with, tool_named};
 ghost use Rattle.superpin_top.specs.Words.{behind_options, asked_run, asked_view};
+
+use crate::tools::ToolName;
 
 /// The most steps of a run, where the words name none.
 pub(crate) const DEFAULT_BUDGET: u64 = 1_000_000_000;
@@ -18,6 +20,7 @@ const MOST_BUDGET: u64 = 1_099_511_627_776;
 pub(crate) struct Request<'a> {
     /// The most steps of the run.
     pub(crate) budget: u64,
+    pub(crate) tool: ToolName,
     /// The strings that the program gets, the first of which names its file: at least one.
     pub(crate) strings: &'a [String],
 }
@@ -27,6 +30,7 @@ pub(crate) struct Request<'a> {
 struct Options {
     serial: bool,
     budget: Option<u64>,
+    tool: Option<ToolName>,
 }
 
 fn are_digits(word: &[u8]) -> bool
@@ -104,6 +108,31 @@ fn with_budget(options: Options, value: &String) -> Option<Options>
     Some(Options { budget, ..options })
 }
 
+// The tool that a word names.
+#[tactic(auto, unfolding(crate::specs::Words::tool_named))]
+fn tool_named(word: &str) -> Option<ToolName>
+    ensures { result ≡ tool_named word.now }
+{
+    match word {
+        "icount" => Some(ToolName::Icount),
+        "bcount" => Some(ToolName::Bcount),
+        "mix" => Some(ToolName::Mix),
+        "blocks" => Some(ToolName::Blocks),
+        _ => None,
+    }
+}
+
+// The options with `--tool` and its value.
+fn with_tool(options: Options, value: &String) -> Option<Options>
+    ensures { result ≡ with_tool options (tool_named (string_bytes value.now)) }
+{
+    let tool = tool_named(value.as_str());
+    if tool.is_none() || options.tool.is_some() {
+        return None;
+    }
+    Some(Options { tool, ..options })
+}
+
 // Whether the words behind the options are a file's name and arguments, of a run that is asked to
 // be serial.
 #[tactic(auto, using(crate::proofs::Plain::all_plain, crate::proofs::Plain::texts_len))]
@@ -118,7 +147,7 @@ fn is_form(options: Options, words: &[String]) -> bool
 fn asked_with(options: Options, words: &[String]) -> Option<Request<'_>>
     ensures asked { MatchOption result (asked_with options (texts words.now) ≡ None)
         (λ a. asked_with options (texts words.now)
-        ≡ Some (record { budget = a.budget; strings = texts a.strings.now })) }
+        ≡ Some (record { budget = a.budget; tool = a.tool; strings = texts a.strings.now })) }
     ensures some { IfSome result (λ a. 0 < length a.strings.now) }
 {
     if !is_form(options, words) {
@@ -126,6 +155,7 @@ fn asked_with(options: Options, words: &[String]) -> Option<Request<'_>>
     }
     Some(Request {
         budget: options.budget.unwrap_or(DEFAULT_BUDGET),
+        tool: options.tool.unwrap_or(ToolName::Icount),
         strings: words,
     })
 }
@@ -135,7 +165,7 @@ fn asked_with(options: Options, words: &[String]) -> Option<Request<'_>>
 fn behind_options(options: Options, words: &[String]) -> Option<Request<'_>>
     ensures asked { MatchOption result (behind_options options (texts words.now) ≡ None)
         (λ a. behind_options options (texts words.now)
-        ≡ Some (record { budget = a.budget; strings = texts a.strings.now })) }
+        ≡ Some (record { budget = a.budget; tool = a.tool; strings = texts a.strings.now })) }
     ensures some { IfSome result (λ a. 0 < length a.strings.now) }
 {
     let [word, value, rest @ ..] = words else {
@@ -147,6 +177,9 @@ fn behind_options(options: Options, words: &[String]) -> Option<Request<'_>>
     if word.as_str() == "--budget" {
         return behind_options(with_budget(options, value)?, rest);
     }
+    if word.as_str() == "--tool" {
+        return behind_options(with_tool(options, value)?, rest);
+    }
     asked_with(options, words)
 }
 
@@ -155,7 +188,7 @@ fn behind_options(options: Options, words: &[String]) -> Option<Request<'_>>
 pub(crate) fn asked_run(words: &[String]) -> Option<Request<'_>>
     ensures asked { MatchOption result (asked_run (texts words.now) ≡ None)
         (λ a. asked_run (texts words.now)
-        ≡ Some (record { budget = a.budget; strings = texts a.strings.now })) }
+        ≡ Some (record { budget = a.budget; tool = a.tool; strings = texts a.strings.now })) }
     ensures some { IfSome result (λ a. 0 < length a.strings.now) }
 {
     let [command, rest @ ..] = words else {
@@ -167,6 +200,7 @@ pub(crate) fn asked_run(words: &[String]) -> Option<Request<'_>>
     let options = Options {
         serial: false,
         budget: None,
+        tool: None,
     };
     behind_options(options, rest)
 }

@@ -10,6 +10,8 @@ mod refusals;
 #[cfg(test)]
 mod runs;
 #[cfg(test)]
+mod tools;
+#[cfg(test)]
 mod views;
 #[cfg(test)]
 mod words;

@@ -5,10 +5,14 @@ use sp_host::{ListPacer, Port};
 use std::test::Fail;
 use superpin_top::{Refusal, answer_words};
 
-const BUILT: [&[&str]; 3] = [
+const BUILT: [&[&str]; 5] = [
     &["run", "--by", "serial", "f", "a", ""],
     &["run", "--budget", "1099511627776", "--by", "serial", "f"],
     &["run", "--by", "serial", "--budget", "3", "f"],
+    &["run", "--tool", "icount", "--by", "serial", "f"],
+    &[
+        "run", "--budget", "3", "--by", "serial", "--tool", "icount", "f",
+    ],
 ];
 
 #[test]
@@ -26,7 +30,7 @@ fn words_are_read(rt: HostRuntime) -> Result<(), Fail> {
     Ok(())
 }
 
-const NOT_BUILT: [&[&str]; 17] = [
+const NOT_BUILT: [&[&str]; 21] = [
     &[],
     &["run"],
     &["run", "f"],
@@ -39,6 +43,12 @@ const NOT_BUILT: [&[&str]; 17] = [
     &["run", "--by", "serial", "--budget", "03", "f"],
     &["run", "--by", "serial", "--budget", "+3", "f"],
     &["run", "--by", "serial", "--budget", "1099511627777", "f"],
+    &["run", "--tool", "icount", "f"],
+    &["run", "--by", "serial", "--tool", "f"],
+    &["run", "--by", "serial", "--tool", "icounts", "f"],
+    &[
+        "run", "--by", "serial", "--tool", "mix", "--tool", "mix", "f",
+    ],
     &["view"],
     &["view", "f", "g"],
     &["view", "-f"],

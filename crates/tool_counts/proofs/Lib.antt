@@ -1,3 +1,5 @@
 pub mod Places
 pub mod Mixes
 pub mod Tallies
+pub mod Effects
+pub mod BlockSums

@@ -4,6 +4,7 @@
 mod block_count;
 mod block_profile;
 mod instruction_count;
+pub mod laws;
 mod op_mix;
 
 pub use block_count::{BlockCount, BlockTotals};

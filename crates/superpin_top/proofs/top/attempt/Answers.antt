@@ -6,7 +6,11 @@ use Rattle.superpin_top.specs.Outcome.{AttemptGives, IsDecided}
 use Rattle.superpin_top.specs.Top.{IsBuilt}
 use Rattle.superpin_top.specs.Words.{Request, ToRun, ToView, texts}
 use Rattle.superpin_top.proofs.Ready.{attempt_none, is_asked, none_asked, not_asked, run_is_asked, view_is_asked}
+use Rattle.superpin_top.proofs.Accepted.{budget_asked}
 use Rattle.superpin_top.proofs.top.attempt.Goals as goal
+
+pub run_asked-requires-clause-budget : goal.run_asked-requires-clause-budget
+run_asked-requires-clause-budget g c = budget_asked (texts c.args.words.now) _ c.in-Some.ensures.asked
 
 pub returns-in-Some-clause-words : goal.returns-in-Some-clause-words
 returns-in-Some-clause-words g c = (
@@ -17,13 +21,13 @@ returns-in-Some-clause-words g c = (
 pub returns-in-Some-clause-early : goal.returns-in-Some-clause-early
 returns-in-Some-clause-early g c files files_are =
     let words = texts c.args.words.now in
-    let a : Request = record { budget = c.in-Some.asked.budget; strings = texts c.in-Some.asked.strings.now } in
+    let a : Request = record { budget = c.in-Some.asked.budget; tool = c.in-Some.asked.tool; strings = texts c.in-Some.asked.strings.now } in
     subst (λ (k : Result Task Refusal). IsDecided k c.run_asked.result) (is_asked words files (ToRun a) (run_is_asked words a c.in-Some.ensures.asked)) (c.run_asked.ensures.early files files_are)
 
 pub returns-in-Some-clause-told : goal.returns-in-Some-clause-told
 returns-in-Some-clause-told g c files w files_are input moments =
     let words = texts c.args.words.now in
-    let a : Request = record { budget = c.in-Some.asked.budget; strings = texts c.in-Some.asked.strings.now } in
+    let a : Request = record { budget = c.in-Some.asked.budget; tool = c.in-Some.asked.tool; strings = texts c.in-Some.asked.strings.now } in
     subst (λ (k : Result Task Refusal). AttemptGives (g.H.Host.told c.args.host.now) k w c.run_asked.result (g.H.Host.told c.run_asked.new.host))
     (is_asked words files (ToRun a) (run_is_asked words a c.in-Some.ensures.asked)) (c.run_asked.ensures.told files w files_are input moments)
 

@@ -1,0 +1,4 @@
+pub mod Start
+pub mod Faults
+pub mod Steps
+pub mod Run

@@ -1,0 +1,27 @@
+use Rattle.std.proofs.Common.{sym, subst}
+use Rattle.std.specs.Prelude.{Ok}
+use Rattle.superpin_top.specs.Due.{Runs}
+use Rattle.superpin_top.specs.Outcome.{AttemptGives}
+use Rattle.superpin_top.specs.Tools.{meaning_of}
+use Rattle.superpin_top.specs.declared.tools.ToolName.{ToolName}
+use Rattle.superpin_top.proofs.run.run_loaded.Goals as goal
+
+pub returns-in-Icount-clause-told : goal.returns-in-Icount-clause-told
+returns-in-Icount-clause-told g c w strings input moments begins =
+    subst (λ (tool : ToolName). AttemptGives (g.H.Host.told c.args.host.now) (Ok (Runs (record { image = c.args.image.now; strings = strings; budget = c.args.budget; tool = meaning_of c.args.image.now tool }))) w c.run_with.result
+    (g.H.Host.told c.run_with.new.host)) (sym c.in-Icount.is) (c.run_with.ensures.told w strings input moments begins)
+
+pub returns-in-Bcount-clause-told : goal.returns-in-Bcount-clause-told
+returns-in-Bcount-clause-told g c w strings input moments begins =
+    subst (λ (tool : ToolName). AttemptGives (g.H.Host.told c.args.host.now) (Ok (Runs (record { image = c.args.image.now; strings = strings; budget = c.args.budget; tool = meaning_of c.args.image.now tool }))) w c.run_with-in-Bcount.result
+    (g.H.Host.told c.run_with-in-Bcount.new.host)) (sym c.in-Bcount.is) (c.run_with-in-Bcount.ensures.told w strings input moments begins)
+
+pub returns-in-Mix-clause-told : goal.returns-in-Mix-clause-told
+returns-in-Mix-clause-told g c w strings input moments begins =
+    subst (λ (tool : ToolName). AttemptGives (g.H.Host.told c.args.host.now) (Ok (Runs (record { image = c.args.image.now; strings = strings; budget = c.args.budget; tool = meaning_of c.args.image.now tool }))) w c.run_with-in-Mix.result
+    (g.H.Host.told c.run_with-in-Mix.new.host)) (sym c.in-Mix.is) (c.run_with-in-Mix.ensures.told w strings input moments begins)
+
+pub returns-in-Blocks-clause-told : goal.returns-in-Blocks-clause-told
+returns-in-Blocks-clause-told g c w strings input moments begins =
+    subst (λ (tool : ToolName). AttemptGives (g.H.Host.told c.args.host.now) (Ok (Runs (record { image = c.args.image.now; strings = strings; budget = c.args.budget; tool = meaning_of c.args.image.now tool }))) w c.run_with-in-Blocks.result
+    (g.H.Host.told c.run_with-in-Blocks.new.host)) (sym c.in-Blocks.is) (c.run_with-in-Blocks.ensures.told w strings input moments begins)

@@ -1,0 +1,142 @@
+// Each tool on whole runs. The counts are by hand, of the manual's instructions, and of the rule that a block is the run of
+// words from an address on that are instructions, up to and including the first that ends it.
+use crate::outside::{HELLO, are, is_ended, is_refused, outside_of, run};
+use sample_files::{EXIT_7, LOAD_PAST_DATA, one_segment, two_segments};
+use std::alloc::{AllocError, Global};
+use std::test::Fail;
+use superpin_top::Refusal;
+
+// A program, and what each tool reports. It has a second segment of 0x2000 zeros at 0x20000 where `data` is true.
+struct Row {
+    data: bool,
+    code: &'static [u32],
+    icount: &'static str,
+    bcount: &'static str,
+    mix: &'static str,
+    blocks: &'static str,
+    end: &'static str,
+    status: u8,
+}
+
+const ROWS: [Row; 6] = [
+    Row {
+        data: false,
+        code: &[0x00100293, 0x00128293, 0x05d00893, 0x00700513, 0x00000073],
+        icount: "icount 5\n",
+        bcount: "bcount 1 5\n",
+        mix: "mix addi 4\nmix ecall 1\n",
+        blocks: "block 0x00010054 5 1 -\n",
+        end: "end exit 7\n",
+        status: 7,
+    },
+    // A call that goes on ends a block.
+    Row {
+        data: false,
+        code: &HELLO,
+        icount: "icount 9\n",
+        bcount: "bcount 2 9\n",
+        mix: "mix lui 1\nmix addi 6\nmix ecall 2\n",
+        blocks: "block 0x00010054 6 1 -\nblock 0x0001006c 3 1 -\n",
+        end: "end exit 0\n",
+        status: 0,
+    },
+    // A loop that is entered above its head: it counts to 6 in memory.
+    Row {
+        data: true,
+        code: &[
+            0x00020337, 0x00600393, 0x00032283, 0x00128293, 0x00532023, 0x407282b3, 0x00028663,
+            0x00000293, 0xfe9ff06f, 0x05d00893, 0x00700513, 0x00000073,
+        ],
+        icount: "icount 45\n",
+        bcount: "bcount 12 45\n",
+        mix: "mix lui 1\nmix jal 5\nmix beq 6\nmix lw 6\nmix sw 6\nmix addi 14\nmix sub 6\nmix ecall 1\n",
+        blocks: "block 0x00010074 7 1 -\nblock 0x0001007c 5 5 -\nblock 0x00010090 2 5 -\nblock 0x00010098 3 1 -\n",
+        end: "end exit 7\n",
+        status: 7,
+    },
+    // A jump over a word that is no instruction.
+    Row {
+        data: false,
+        code: &[
+            0x000102b7, 0x061280e7, 0, 0x05d00893, 0x00700513, 0x00000073,
+        ],
+        icount: "icount 5\n",
+        bcount: "bcount 2 5\n",
+        mix: "mix lui 1\nmix jalr 1\nmix addi 2\nmix ecall 1\n",
+        blocks: "block 0x00010054 2 1 -\nblock 0x00010060 3 1 -\n",
+        end: "end exit 7\n",
+        status: 7,
+    },
+    // A load that faults is counted: it was tried.
+    Row {
+        data: true,
+        code: &LOAD_PAST_DATA,
+        icount: "icount 2\n",
+        bcount: "bcount 1 2\n",
+        mix: "mix lui 1\nmix lw 1\n",
+        blocks: "block 0x00010074 2 1 -\n",
+        end: "end signal 11 at 0x00010078\n",
+        status: 139,
+    },
+    // A word that is no instruction is not, and a block that it cuts is no longer than what was run.
+    Row {
+        data: false,
+        code: &[0x00100293, 0x00128293, 0],
+        icount: "icount 2\n",
+        bcount: "bcount 1 2\n",
+        mix: "mix addi 2\n",
+        blocks: "block 0x00010054 2 1 -\n",
+        end: "end signal 4 at 0x0001005c\n",
+        status: 132,
+    },
+];
+
+fn program(alloc: Global, row: &Row) -> Result<Vec<u8>, AllocError> {
+    if row.data {
+        two_segments(alloc, row.code)
+    } else {
+        one_segment(alloc, row.code)
+    }
+}
+
+// Whether the tool of this name reports this.
+fn reports(alloc: Global, row: &Row, tool: &str, text: &str) -> Result<bool, Fail> {
+    let words = ["run", "--tool", tool, "--by", "serial", "f"];
+    let done = run(
+        alloc,
+        &words,
+        outside_of(alloc, program(alloc, row)?, 65_536),
+    )?;
+    let mut report = text.as_bytes().to_vec(alloc)?;
+    report.extend_from_slice(row.end.as_bytes())?;
+    Ok(is_ended(&done.answer, row.status) && are(&done.report, &report))
+}
+
+#[test]
+fn tools_report(rt: HostRuntime) -> Result<(), Fail> {
+    let alloc = rt.alloc();
+    for (k, row) in ROWS.iter().enumerate() {
+        let holds = reports(alloc, row, "icount", row.icount)?
+            && reports(alloc, row, "bcount", row.bcount)?
+            && reports(alloc, row, "mix", row.mix)?
+            && reports(alloc, row, "blocks", row.blocks)?;
+        assert!(rt; holds, "row {k}");
+    }
+    Ok(())
+}
+
+#[test]
+fn budget_leaves_no_report(rt: HostRuntime) -> Result<(), Fail> {
+    let alloc = rt.alloc();
+    let words = [
+        "run", "--by", "serial", "--tool", "blocks", "--budget", "2", "f",
+    ];
+    let done = run(
+        alloc,
+        &words,
+        outside_of(alloc, one_segment(alloc, &EXIT_7)?, 65_536),
+    )?;
+    assert!(rt; is_refused(&done.answer, Refusal::BudgetSpent { n: 2 }));
+    assert!(rt; are(&done.report, b"superpin: 7 budget 2 spent\n"));
+    Ok(())
+}
