@@ -1,6 +1,6 @@
 // A guest's memory.
 ghost use Rattle.std.specs.Prelude.{[], ◌∷◌, ◌++◌, ◌≡◌, ◌≢◌, ℕ, ◌+◌, ◌-◌, ◌*◌, ◌/◌, ◌%◌, ◌^◌, ◌<◌};
-ghost use Rattle.std.specs.Prelude.{◌≤◌, ◌⊎◌, true, false, length, IfOk, MatchResult, OnOk, OnErr};
+ghost use Rattle.std.specs.Prelude.{◌≤◌, ◌⊎◌, true, false, length, IfOk, IfSome, MatchResult, OnOk, OnErr};
 ghost use Rattle.std.specs.Prelude.{Some, None, IsTrue, ◌↔◌};
 ghost use Rattle.guest_model.specs.Areas.{is_mapped, is_permitted, all_permitted};
 ghost use Rattle.guest_model.specs.Areas.{is_range_permitted, holds, wrap};
@@ -31,7 +31,7 @@ use guest_model::platform::{
     EINVAL, ENOMEM, HEAP_START, MAPS_END, MAPS_START, MOST_AREAS, MOST_PAGES, PAGE_SIZE, failure,
 };
 use guest_model::{Access, Area};
-use rv_isa::{Instr, decode};
+use rv_isa::{Instr, Op, decode};
 use std::alloc::{AllocError, Global};
 use std::marker::Model;
 
@@ -258,9 +258,21 @@ impl Space {
         ensures { MatchResult result (λ i. word_at self.now.space at ≡ Some i)
             (λ _. word_at self.now.space at ≡ None) }
     {
-        match self.code.at(at) {
-            Some(word) => Ok(word.instr()),
+        match self.kept_at(at) {
+            Some(i) => Ok(Some(*i)),
             None => self.decode_at(at),
+        }
+    }
+
+    /// The instruction at `at`, read in place where it is kept decoded. None says nothing of the word there.
+    #[inline(always)]
+    pub fn kept_at(&self, at: u32) -> Option<&Instr>
+        ensures { IfSome result (λ i. word_at self.now.space at ≡ Some (Some i.now)) }
+    {
+        let i = self.code.at(at)?;
+        match i.op {
+            Op::Ebreak => None,
+            _ => Some(i),
         }
     }
 
