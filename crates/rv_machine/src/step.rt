@@ -1,14 +1,15 @@
 // One step: fetch, decode, carry out.
-ghost use Rattle.std.specs.Prelude.{◌≡◌, ◌<◌};
-ghost use Rattle.guest_model.specs.Effect.{effect_of, effect_by, stored_by, rs1_value, rs2_value};
+ghost use Rattle.std.specs.Prelude.{◌≡◌, ◌<◌, ◌⊎◌, MatchResult, Some};
+ghost use Rattle.guest_model.specs.Effect.{Effect, effect_of, effect_by, stored_by, rs1_value, rs2_value};
 ghost use Rattle.guest_model.specs.Effect.{immediate, address, target, machine_at, machine_with};
 ghost use Rattle.guest_model.specs.Effect.{passes, writes, computes, jumps, branches, loads};
 ghost use Rattle.guest_model.specs.Effect.{stores};
 ghost use Rattle.guest_model.specs.Machine.{following};
+ghost use Rattle.guest_mem.specs.Code.{word_at};
 ghost use Rattle.guest_mem.specs.Frames.{HasAllFrames};
 ghost use Rattle.rv_isa.specs.Kinds.{mem_size};
 ghost use Rattle.rv_machine.specs.Ran.{HasFramesFor, HasRun};
-ghost use Rattle.rv_machine.specs.Step.{Gives, status_of};
+ghost use Rattle.rv_machine.specs.Step.{Gives, kind_number, status_of};
 
 use crate::guest::Guest;
 use rv_isa::{Instr, Op, alu, is_taken, is_terminator, loaded, mem_size};
@@ -70,7 +71,7 @@ impl Guest {
         requires { HasAllFrames self.old.frames (stored_by (effect_of self.old.machine)) }
         ensures { Gives (effect_of self.old.machine) result self.old self.new }
     {
-        self.try_step()
+        self.advance(1, u32::MAX).last
     }
 
     /// Makes at most `steps` steps. It stops before a call or a fault, and behind a step after which
@@ -78,6 +79,17 @@ impl Guest {
     pub fn run(&mut self, steps: u64, pages: u32) -> Ran
         requires { HasFramesFor pages self.old.frames }
         ensures { HasRun steps pages self.old self.new result }
+    {
+        self.advance(steps, pages)
+    }
+
+    // The loop of both calls: it is the one place that carries instructions out, so that the code for
+    // that is put into it.
+    fn advance(&mut self, steps: u64, pages: u32) -> Ran
+        requires { HasFramesFor pages self.old.frames
+            ⊎ ((steps ≡ 1) × HasAllFrames self.old.frames (stored_by (effect_of self.old.machine))) }
+        ensures run { HasRun steps pages self.old self.new result }
+        ensures alone { steps ≡ 1 → Gives (effect_of self.old.machine) result.last self.old self.new }
     {
         let _written = self.memory.written();
         for completed in 0..steps {
@@ -111,15 +123,32 @@ impl Guest {
     }
 
     #[inline(always)]
-    #[tactic(auto, unfolding(guest_model::specs::Effect::effect_of))]
     fn try_step(&mut self) -> Stepped
         requires { HasAllFrames self.old.frames (stored_by (effect_of self.old.machine)) }
         ensures { Gives (effect_of self.old.machine) result self.old self.new }
     {
+        let i = match self.memory.kept_at(self.pc) {
+            Some(i) => *i,
+            None => match self.look_up() {
+                Ok(i) => i,
+                Err(kind) => return Stepped::Fault(kind),
+            },
+        };
+        self.carry_out(&i)
+    }
+
+    // The instruction at pc, where it is not kept decoded, or the fault of the word there.
+    #[inline(never)]
+    #[tactic(auto, unfolding(guest_model::specs::Effect::effect_of))]
+    fn look_up(&self) -> Result<Instr, FaultKind>
+        ensures { MatchResult result
+            (λ i. word_at self.now.machine.space self.now.machine.pc ≡ Some (Some i))
+            (λ kind. effect_of self.now.machine ≡ Effect.Fault (kind_number kind)) }
+    {
         match self.memory.instruction_at(self.pc) {
-            Err(_) => Stepped::Fault(FaultKind::Access),
-            Ok(None) => Stepped::Fault(FaultKind::Illegal),
-            Ok(Some(i)) => self.carry_out(&i),
+            Err(_) => Err(FaultKind::Access),
+            Ok(None) => Err(FaultKind::Illegal),
+            Ok(Some(i)) => Ok(i),
         }
     }
 
