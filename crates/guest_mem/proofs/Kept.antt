@@ -17,7 +17,7 @@ use Rattle.guest_model.specs.declared.Area.{Area}
 use Rattle.guest_model.specs.declared.Access.TheVariants.{Write, Execute}
 use Rattle.guest_model.specs.declared.platform.TheConstants.{MAPS_START}
 use Rattle.frame_pool.specs.Bytes.{is_among}
-use Rattle.guest_mem.specs.Code.{CodeFields, IsEntryAmong, IsFixed, IsKept, code_of, codes_with, entry_of, first_word, holds_code, look_again, word_at, word_in}
+use Rattle.guest_mem.specs.Code.{CodeFields, IsFixed, IsKept, IsKeptAmong, code_of, codes_with, entry_of, first_word, holds_code, look_again, word_at, word_in}
 use Rattle.guest_mem.specs.Mapped.{space_over}
 use Rattle.guest_mem.specs.Sound.{is_cut}
 use Rattle.guest_mem.proofs.Added.{IsAdded, IsWithin, among_held, not_permitted}
@@ -222,12 +222,12 @@ entry_is : (o : Option Fields) (i : Fields) → entry_of o ≡ i → (i.op ≡ E
 entry_is None i is none = absurd (none (ap (λ (f : Fields). f.op) (sym is)))
 entry_is (Some j) i is none = ap Some is
 
--- an entry that is no ebreak is the instruction of the word there
+-- an instruction that is kept is that of the word there
 pub entry_kept : (s : Space) (areas : List Area) (all : List ℕ) (brk next a : ℕ) (codes : List CodeFields) (i : Fields)
     → space_over areas all brk next ≡ s → ((q : ℕ) → is_mapped areas q ≡ false → get_or all q 0 ≡ 0)
-    → All (IsKept areas all) codes → IsEntryAmong codes a i → (i.op ≡ Ebreak → ⊥) → a < 2 ^ 32 → word_at s a ≡ Some (Some i)
+    → All (IsKept areas all) codes → IsKeptAmong codes a i → a < 2 ^ 32 → word_at s a ≡ Some (Some i)
 unfolding read_number
-entry_kept s areas all brk next a codes i is rest kept found other fits =
+entry_kept s areas all brk next a codes i is rest kept found fits =
     let code = get_or codes found.j (record { start = 0; entries = [] }) in
     let here = kept found.j (record { start = 0; entries = [] }) found.within in
     let there = found.at (record { start = 0; entries = [] }) in
@@ -243,4 +243,4 @@ entry_kept s areas all brk next a codes i is rest kept found other fits =
     ∙ (here.fixed (a + j) (omega (arith, place)) (omega (arith, place, within, lt))).executed) in
     rw permitted (ap Some (
     ap decoded (word_over s all a (byte_of_space s areas all brk next is rest) (omega (arith, place, end, within)) ∙ ap (word_in all) place)
-    ∙ entry_is (decoded (word_in all (code.start + 4 * k))) i (sym (here.decodes k within) ∙ there.is) other))
+    ∙ entry_is (decoded (word_in all (code.start + 4 * k))) i (sym (here.decodes k within) ∙ there.is) there.other))

@@ -66,18 +66,19 @@ holds_code x = x.execute && (not x.write && nat_le x.end MAPS_START)
 abbrev pub codes_with : Area → ℕ → List ℕ → List CodeFields → List CodeFields
 codes_with x at bytes codes = if holds_code x then codes ++ code_of at bytes ∷ [] else codes
 
--- the instruction is the entry of an address of the code
-pub record IsEntryOf (code : CodeFields) (a : ℕ) (i : Fields) : Type 0 where
+-- the instruction is the entry of an address of the code, and does not say to look again
+pub record IsKeptAt (code : CodeFields) (a : ℕ) (i : Fields) : Type 0 where
   pub k : ℕ
   pub within : k < length code.entries
   pub at : a ≡ (code.start + 4 * k) % 2 ^ 32
   pub is : kept_entry code k ≡ i
+  pub other : i.op ≡ Ebreak → ⊥
 
--- the instruction is the entry of an address of one of these
-pub record IsEntryAmong (codes : List CodeFields) (a : ℕ) (i : Fields) : Type 0 where
+-- the same of one of these
+pub record IsKeptAmong (codes : List CodeFields) (a : ℕ) (i : Fields) : Type 0 where
   pub j : ℕ
   pub within : j < length codes
-  pub at : (d : CodeFields) → IsEntryOf (slice_index_or codes j d) a i
+  pub at : (d : CodeFields) → IsKeptAt (slice_index_or codes j d) a i
 
 -- what the word at an address decodes to, where its bytes may be executed
 abbrev pub word_at : Space → ℕ → Option (Option Fields)

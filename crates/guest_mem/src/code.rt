@@ -1,7 +1,7 @@
 // Code that is kept decoded.
 ghost use Rattle.std.specs.Prelude.{[], ◌≡◌, ℕ, ◌+◌, ◌-◌, ◌*◌, ◌/◌, ◌%◌, ◌^◌, ◌<◌, ◌≤◌, length, IfOk, IfSome};
 ghost use Rattle.rv_isa.specs.Decoded.{decoded};
-ghost use Rattle.guest_mem.specs.Code.{IsEntryAmong, IsEntryOf, code_of, codes_with, entry_of, word_in};
+ghost use Rattle.guest_mem.specs.Code.{IsKeptAmong, IsKeptAt, code_of, codes_with, entry_of, word_in};
 
 use crate::number::number_of;
 use guest_model::Area;
@@ -53,17 +53,21 @@ impl Code {
         Ok(Code { start, entries })
     }
 
-    /// The instruction at an address, if it is one of these.
+    /// The instruction at an address, if its entry is one of these and does not say to look again.
     #[inline(always)]
     pub(crate) fn at(&self, pc: u32) -> Option<&Instr>
-        ensures { IfSome result (λ i. IsEntryOf self.now pc i.now) }
+        ensures { IfSome result (λ i. IsKeptAt self.now pc i.now) }
     {
         let offset = pc.wrapping_sub(self.start);
         let k = (offset / 4) as usize;
-        if offset % 4 == 0 && k < self.entries.len() {
-            return Some(&self.entries[k]);
+        if offset % 4 != 0 || k >= self.entries.len() {
+            return None;
         }
-        None
+        let i = &self.entries[k];
+        match i.op {
+            Op::Ebreak => None,
+            _ => Some(i),
+        }
     }
 }
 
@@ -122,10 +126,17 @@ impl KeptCode {
         Ok(code)
     }
 
-    /// The entry of an address, if it is of code that is kept.
+    /// The instruction at an address, if it is of the code that was kept first.
     #[inline(always)]
+    pub(crate) fn first_at(&self, pc: u32) -> Option<&Instr>
+        ensures { IfSome result (λ i. IsKeptAmong self.now pc i.now) }
+    {
+        self.parts.first()?.at(pc)
+    }
+
+    /// The instruction at an address, if it is kept.
     pub(crate) fn at(&self, pc: u32) -> Option<&Instr>
-        ensures { IfSome result (λ i. IsEntryAmong self.now pc i.now) }
+        ensures { IfSome result (λ i. IsKeptAmong self.now pc i.now) }
     {
         for part in &self.parts {
             if let Some(i) = part.at(pc) {

@@ -31,7 +31,7 @@ use guest_model::platform::{
     EINVAL, ENOMEM, HEAP_START, MAPS_END, MAPS_START, MOST_AREAS, MOST_PAGES, PAGE_SIZE, failure,
 };
 use guest_model::{Access, Area};
-use rv_isa::{Instr, Op, decode};
+use rv_isa::{Instr, decode};
 use std::alloc::{AllocError, Global};
 use std::marker::Model;
 
@@ -264,24 +264,25 @@ impl Space {
         }
     }
 
-    /// The instruction at `at`, read in place where it is kept decoded. None says nothing of the word there.
+    /// The instruction at `at`, read in place where it is at hand. None says nothing of the word
+    /// there.
     #[inline(always)]
     pub fn kept_at(&self, at: u32) -> Option<&Instr>
         ensures { IfSome result (λ i. word_at self.now.space at ≡ Some (Some i.now)) }
     {
-        let i = self.code.at(at)?;
-        match i.op {
-            Op::Ebreak => None,
-            _ => Some(i),
-        }
+        let i = self.code.first_at(at)?;
+        Some(i)
     }
 
-    /// The same, where the word is not kept decoded.
+    /// The same as `instruction_at`, where the instruction is not at hand.
     #[inline(never)]
     fn decode_at(&self, at: u32) -> Result<Option<Instr>, Denied>
         ensures { MatchResult result (λ i. word_at self.now.space at ≡ Some i)
             (λ _. word_at self.now.space at ≡ None) }
     {
+        if let Some(i) = self.code.at(at) {
+            return Ok(Some(*i));
+        }
         match self.fetch(at) {
             Ok(word) => Ok(decode(word)),
             Err(denied) => Err(denied),

@@ -13,61 +13,36 @@ use Rattle.guest_mem.proofs.Ranges.{takes_none, takes_more}
 use Rattle.rv_machine.specs.Guest.{GuestState}
 use Rattle.rv_machine.specs.Ran.{HasFramesFor, machine_after, state_by, state_of, stored_along, written_after}
 use Rattle.rv_machine.specs.Step.{Gives}
-use Rattle.rv_machine.specs.declared.step.Stepped.{Stepped}
 use Rattle.rv_machine.specs.declared.step.Stepped.TheVariants as answers
 
 -- a step lacks no frame: there is one for each page, or two are free, and two more than the limit stand
 abbrev pub HasRoom : ℕ → Frames → Type 0
 HasRoom pages f = (MOST_PAGES ≤ f.count) ⊎ ((2 ≤ f.free) × (pages + 2 ≤ f.count))
 
--- the steps lack no frame: each one, or the one that is made
-abbrev pub HasRoomFor : ℕ → ℕ → GuestState → Frames → Type 0
-HasRoomFor steps pages old f = HasRoom pages f ⊎ ((steps ≡ 1) × HasAllFrames old.frames (stored_by (effect_of old.machine)))
-
--- so many steps of those completed, and no more than the limit of pages was written on the way
-pub record SoFar (steps pages : ℕ) (old now : GuestState) (n : ℕ) : Type 0 where
+-- so many steps completed, and no more than the limit of pages was written on the way
+pub record SoFar (pages : ℕ) (old now : GuestState) (n : ℕ) : Type 0 where
   pub machine : machine_after n old.machine ≡ Running now.machine
   pub frames : TakesFrames old.frames now.frames (stored_along n old.machine)
   pub origin : now.origin ≡ old.origin
   pub few : (k : ℕ) → 0 < k → k ≤ n → written_after k old ≤ pages
-  pub room : HasRoomFor steps pages old now.frames
-  pub none : n ≡ 0 → now ≡ old
-  pub one : n ≡ 1 → Gives (effect_of old.machine) answers.Next old now
+  pub room : HasRoom pages now.frames
 
 room_of : (pages : ℕ) (f : Frames) → HasFramesFor pages f → f.count ≤ f.free + count_marked f.written → HasRoom pages f
 room_of pages f (inl all) enough = inl all
 room_of pages f (inr two) enough = inr (omega (arith, two.0, two.1, enough), two.1)
 
-room_at_first : (steps pages : ℕ) (g : GuestState) → HasFramesFor pages g.frames ⊎ ((steps ≡ 1) × HasAllFrames g.frames (stored_by (effect_of g.machine)))
-    → g.frames.count ≤ g.frames.free + count_marked g.frames.written → HasRoomFor steps pages g g.frames
-room_at_first steps pages g (inl has) enough = inl (room_of pages g.frames has enough)
-room_at_first steps pages g (inr alone) enough = inr alone
-
-pub begins : (steps pages : ℕ) (g : GuestState) → HasFramesFor pages g.frames ⊎ ((steps ≡ 1) × HasAllFrames g.frames (stored_by (effect_of g.machine)))
-    → g.frames.count ≤ g.frames.free + count_marked g.frames.written → SoFar steps pages g g 0
-begins steps pages g has enough = record {
+pub begins : (pages : ℕ) (g : GuestState) → HasFramesFor pages g.frames → g.frames.count ≤ g.frames.free + count_marked g.frames.written → SoFar pages g g 0
+begins pages g has enough = record {
   machine = after-zero state_of (Running g.machine);
   frames = subst (TakesFrames g.frames g.frames) (sym (along-zero state_of (λ (here : Machine). stored_by (effect_of here)) (Running g.machine))) (takes_none g.frames g.frames refl);
   origin = refl;
   few = λ k some none. absurd (omega (arith, some, none));
-  room = room_at_first steps pages g has enough;
-  none = λ e. refl;
-  one = λ e. absurd (omega (arith, e));
+  room = room_of pages g.frames has enough;
 }
 
-has_each : (pages : ℕ) (f : Frames) (m : Machine) → HasRoom pages f → HasAllFrames f (stored_by (effect_of m))
-has_each pages f m (inl all) = inl all
-has_each pages f m (inr two) = inr (omega (arith, two.0, few_for_effect f m (effect_of m) refl))
-
-pub has_for_step : (steps pages : ℕ) (old now : GuestState) (n : ℕ) → n < steps → HasRoomFor steps pages old now.frames → (n ≡ 0 → now ≡ old)
-    → HasAllFrames now.frames (stored_by (effect_of now.machine))
-has_for_step steps pages old now n more (inl room) none = has_each pages now.frames now.machine room
-has_for_step steps pages old now n more (inr alone) none =
-    subst (λ (g : GuestState). HasAllFrames g.frames (stored_by (effect_of g.machine))) (sym (none (omega (arith, more, alone.0)))) alone.1
-
--- what the first step answers
-pub first_gives : (old now new : GuestState) (n : ℕ) (answer : Stepped) → n ≡ 0 → (n ≡ 0 → now ≡ old) → Gives (effect_of now.machine) answer now new → Gives (effect_of old.machine) answer old new
-first_gives old now new n answer first none gives = subst (λ (g : GuestState). Gives (effect_of g.machine) answer g new) (none first) gives
+pub has_for_step : (pages : ℕ) (f : Frames) (m : Machine) → HasRoom pages f → HasAllFrames f (stored_by (effect_of m))
+has_for_step pages f m (inl all) = inl all
+has_for_step pages f m (inr two) = inr (omega (arith, two.0, few_for_effect f m (effect_of m) refl))
 
 -- a step more, whatever is written then
 pub record OneMore (old new : GuestState) (n : ℕ) : Type 0 where
@@ -79,8 +54,8 @@ pub record OneMore (old new : GuestState) (n : ℕ) : Type 0 where
 leads : (old new : GuestState) → Gives (effect_of old.machine) answers.Next old new → state_of old.machine ≡ Running new.machine
 leads old new gives = ap (state_by old.machine) gives.0
 
-pub one_more : (steps pages : ℕ) (old now new : GuestState) (n : ℕ) → SoFar steps pages old now n → Gives (effect_of now.machine) answers.Next now new → OneMore old new n
-one_more steps pages old now new n before gives =
+pub one_more : (pages : ℕ) (old now new : GuestState) (n : ℕ) → SoFar pages old now n → Gives (effect_of now.machine) answers.Next now new → OneMore old new n
+one_more pages old now new n before gives =
     let takes : TakesFrames old.frames new.frames (stored_along (n + 1) old.machine) =
     subst (TakesFrames old.frames new.frames)
     (sym (along-next state_of (λ (here : Machine). stored_by (effect_of here)) n (Running old.machine) now.machine before.machine))
@@ -96,14 +71,9 @@ room_still : (pages : ℕ) (old new : Frames) → HasRoom pages old → new.coun
 room_still pages old new (inl all) same enough few = inl (omega (arith, all, same))
 room_still pages old new (inr two) same enough few = inr (omega (arith, two.1, same, enough, few), omega (arith, two.1, same))
 
-room_goes_on : (steps pages : ℕ) (first : GuestState) (old new : Frames) → HasRoomFor steps pages first old → new.count ≡ old.count → new.count ≤ new.free + count_marked new.written
-    → count_marked new.written ≤ pages → HasRoomFor steps pages first new
-room_goes_on steps pages first old new (inl room) same enough few = inl (room_still pages old new room same enough few)
-room_goes_on steps pages first old new (inr alone) same enough few = inr alone
-
-pub goes_on : (steps pages : ℕ) (old now new : GuestState) (n : ℕ) → SoFar steps pages old now n → OneMore old new n → Gives (effect_of now.machine) answers.Next now new
-    → new.frames.count ≤ new.frames.free + count_marked new.frames.written → count_marked new.frames.written ≤ pages → SoFar steps pages old new (n + 1)
-goes_on steps pages old now new n before more gives enough few = record {
+pub goes_on : (pages : ℕ) (old now new : GuestState) (n : ℕ) → SoFar pages old now n → OneMore old new n → new.frames.count ≡ now.frames.count
+    → new.frames.count ≤ new.frames.free + count_marked new.frames.written → count_marked new.frames.written ≤ pages → SoFar pages old new (n + 1)
+goes_on pages old now new n before more count enough few = record {
   machine = more.machine;
   frames = more.frames;
   origin = more.origin;
@@ -111,7 +81,5 @@ goes_on steps pages old now new n before more gives enough few = record {
     | inl e ↦ omega (arith, few, more.written ∙ refl, ap (λ j. written_after j old) e)
     | inr ne ↦ before.few k some (omega (arith, le, ne))
   ];
-  room = room_goes_on steps pages old now.frames new.frames before.room gives.1.0.count enough few;
-  none = λ e. absurd (omega (arith, e));
-  one = λ e. first_gives old now new n answers.Next (omega (arith, e)) before.none gives;
+  room = room_still pages now.frames new.frames before.room count enough few;
 }

@@ -1,5 +1,5 @@
 // One step: fetch, decode, carry out.
-ghost use Rattle.std.specs.Prelude.{◌≡◌, ◌<◌, ◌⊎◌, MatchResult, Some};
+ghost use Rattle.std.specs.Prelude.{◌≡◌, ◌<◌, MatchResult, Some};
 ghost use Rattle.guest_model.specs.Effect.{Effect, effect_of, effect_by, stored_by, rs1_value, rs2_value};
 ghost use Rattle.guest_model.specs.Effect.{immediate, address, target, machine_at, machine_with};
 ghost use Rattle.guest_model.specs.Effect.{passes, writes, computes, jumps, branches, loads};
@@ -67,11 +67,19 @@ impl End {
 #[tactic(auto, using(guest_mem::proofs::Ranges::takes_none))]
 impl Guest {
     /// Tries the instruction at pc. Two free frames always suffice.
+    #[inline(never)]
     pub fn step(&mut self) -> Stepped
         requires { HasAllFrames self.old.frames (stored_by (effect_of self.old.machine)) }
         ensures { Gives (effect_of self.old.machine) result self.old self.new }
     {
-        self.advance(1, u32::MAX).last
+        let i = match self.memory.kept_at(self.pc) {
+            Some(i) => fields_of(i),
+            None => match self.look_up() {
+                Ok(i) => i,
+                Err(kind) => return Stepped::Fault(kind),
+            },
+        };
+        self.carry_out::<false>(&i)
     }
 
     /// Makes at most `steps` steps. It stops before a call or a fault, and behind a step after which
@@ -80,20 +88,9 @@ impl Guest {
         requires { HasFramesFor pages self.old.frames }
         ensures { HasRun steps pages self.old self.new result }
     {
-        self.advance(steps, pages)
-    }
-
-    // The loop of both calls: it is the one place that carries instructions out, so that the code for
-    // that is put into it.
-    fn advance(&mut self, steps: u64, pages: u32) -> Ran
-        requires { HasFramesFor pages self.old.frames
-            ⊎ ((steps ≡ 1) × HasAllFrames self.old.frames (stored_by (effect_of self.old.machine))) }
-        ensures run { HasRun steps pages self.old self.new result }
-        ensures alone { steps ≡ 1 → Gives (effect_of self.old.machine) result.last self.old self.new }
-    {
         let _written = self.memory.written();
         for completed in 0..steps {
-            match self.try_step() {
+            match self.step_of_run() {
                 Stepped::Next => {
                     if self.memory.written() > pages {
                         return Ran {
@@ -122,19 +119,19 @@ impl Guest {
         }
     }
 
+    // The same as a step, within the loop of a run.
     #[inline(always)]
-    fn try_step(&mut self) -> Stepped
+    fn step_of_run(&mut self) -> Stepped
         requires { HasAllFrames self.old.frames (stored_by (effect_of self.old.machine)) }
         ensures { Gives (effect_of self.old.machine) result self.old self.new }
     {
-        let i = match self.memory.kept_at(self.pc) {
-            Some(i) => *i,
-            None => match self.look_up() {
-                Ok(i) => i,
-                Err(kind) => return Stepped::Fault(kind),
-            },
-        };
-        self.carry_out(&i)
+        match self.memory.kept_at(self.pc) {
+            Some(i) => {
+                let i = fields_of(i);
+                self.carry_out::<true>(&i)
+            }
+            None => self.step(),
+        }
     }
 
     // The instruction at pc, where it is not kept decoded, or the fault of the word there.
@@ -153,8 +150,9 @@ impl Guest {
     }
 
     // Carries out an instruction. Each operation has an arm of its own, in which what depends on it
-    // alone is settled.
-    fn carry_out(&mut self, i: &Instr) -> Stepped
+    // alone is settled. A step and the loop of a run have each an instance of this function, which is
+    // put into the one place that calls it.
+    fn carry_out<const IN_RUN: bool>(&mut self, i: &Instr) -> Stepped
         requires { HasAllFrames self.old.frames (stored_by (effect_by i.now.op self.old.machine i.now)) }
         ensures { Gives (effect_by i.now.op self.old.machine i.now) result self.old self.new }
     {
@@ -339,6 +337,20 @@ impl Guest {
             }
             Err(_) => Stepped::Fault(FaultKind::Access),
         }
+    }
+}
+
+// The instruction, each field of which is read where it stands.
+#[inline(always)]
+fn fields_of(i: &Instr) -> Instr
+    ensures { result ≡ i.now }
+{
+    Instr {
+        op: i.op,
+        rd: i.rd,
+        rs1: i.rs1,
+        rs2: i.rs2,
+        imm: i.imm,
     }
 }
 

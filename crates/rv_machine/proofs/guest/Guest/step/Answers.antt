@@ -6,13 +6,13 @@ use Rattle.guest_mem.specs.Frames.{HasAllFrames}
 use Rattle.rv_machine.specs.Guest.{GuestState}
 use Rattle.rv_machine.specs.Step.{Gives}
 use Rattle.rv_machine.proofs.Frames.{effect_found}
-use Rattle.rv_machine.proofs.guest.Guest.try_step.Goals as goal
-use Rattle.rv_machine.proofs.guest.Guest.try_step.Goals.{Joined-kept_at, in-Some, in-None+in-Ok}
+use Rattle.rv_machine.proofs.guest.Guest.step.Goals as goal
+use Rattle.rv_machine.proofs.guest.Guest.step.Goals.{Joined-kept_at, in-Some, in-None+in-Ok}
 
 -- the instruction stands at pc, whether it was kept or looked up
 stands : (c : Joined-kept_at) → word_at c.args.self.now.machine.space c.args.self.now.machine.pc ≡ Some (Some c.match-kept_at.i)
 stands c = elim c.match-kept_at.branch [
-  | in-Some w ↦ ap (λ (h : GuestState). word_at h.machine.space h.machine.pc) (sym c.self.view_is) ∙ w.in-Some.ensures ∙ ap (λ (f : Fields). Some (Some f)) (sym w.i-is)
+  | in-Some w ↦ ap (λ (h : GuestState). word_at h.machine.space h.machine.pc) (sym c.self.view_is) ∙ w.in-Some.ensures ∙ ap (λ (f : Fields). Some (Some f)) (sym w.fields_of-i.ensures ∙ sym w.i-is)
   | in-None+in-Ok w ↦ w.in-Ok.ensures ∙ ap (λ (f : Fields). Some (Some f)) (sym w.i-is)
 ]
 
