@@ -17,7 +17,7 @@ use Rattle.guest_model.specs.declared.Area.{Area}
 use Rattle.guest_model.specs.declared.Access.TheVariants.{Write, Execute}
 use Rattle.guest_model.specs.declared.platform.TheConstants.{MAPS_START}
 use Rattle.frame_pool.specs.Bytes.{is_among}
-use Rattle.guest_mem.specs.Code.{CodeFields, IsFixed, IsKept, IsKeptAmong, code_of, codes_with, entry_of, first_word, holds_code, look_again, word_at, word_in}
+use Rattle.guest_mem.specs.Code.{CodeFields, IsFixed, IsKept, IsKeptAmong, code_of, codes_with, entry_of, first_word, holds_code, look_again, no_code, word_at, word_in}
 use Rattle.guest_mem.specs.Mapped.{space_over}
 use Rattle.guest_mem.specs.Sound.{is_cut}
 use Rattle.guest_mem.proofs.Added.{IsAdded, IsWithin, among_held, not_permitted}
@@ -56,6 +56,12 @@ kept_stays xs ys old new code stays kept =
 
 pub all_stay : (xs ys : List Area) (old new : List ℕ) (codes : List CodeFields) → CodeStays xs ys old new → All (IsKept xs old) codes → All (IsKept ys new) codes
 all_stay xs ys old new codes stays all = λ k d lt. kept_stays xs ys old new (get_or codes k d) stays (all k d lt)
+
+-- no code is kept
+pub none_kept : (areas : List Area) (all : List ℕ) → All (IsKept areas all) (no_code ∷ [])
+none_kept areas all = λ k d lt.
+    let first : k ≡ 0 = omega (arith, lt) in
+    rw first (record { end = omega arith; fixed = λ a from to. absurd (omega (arith, from, to)); decodes = λ j none. absurd (omega (arith, none)) })
 
 elsewhere : (t : Bool) (x y : ℕ) → (t ≡ true → ⊥) → cond t x y ≡ y
 elsewhere true x y none = absurd (none refl)

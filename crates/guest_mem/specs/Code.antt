@@ -42,6 +42,9 @@ entries_of bytes skipped = map (λ k. entry_of (decoded (word_in bytes (skipped 
 abbrev pub code_of : ℕ → List ℕ → CodeFields
 code_of at bytes = record { start = first_word at; entries = entries_of bytes (first_word at - at) }
 
+abbrev pub no_code : CodeFields
+no_code = record { start = 0; entries = [] }
+
 -- an entry of the code, an ebreak behind the last
 abbrev pub kept_entry : CodeFields → ℕ → Fields
 kept_entry code k = slice_index_or code.entries k look_again

@@ -1,7 +1,7 @@
 // Code that is kept decoded.
-ghost use Rattle.std.specs.Prelude.{[], ◌≡◌, ℕ, ◌+◌, ◌-◌, ◌*◌, ◌/◌, ◌%◌, ◌^◌, ◌<◌, ◌≤◌, length, IfOk, IfSome};
+ghost use Rattle.std.specs.Prelude.{[], ◌∷◌, ◌≡◌, ℕ, ◌+◌, ◌-◌, ◌*◌, ◌/◌, ◌%◌, ◌^◌, ◌<◌, ◌≤◌, length, IfOk, IfSome};
 ghost use Rattle.rv_isa.specs.Decoded.{decoded};
-ghost use Rattle.guest_mem.specs.Code.{IsKeptAmong, IsKeptAt, code_of, codes_with, entry_of, word_in};
+ghost use Rattle.guest_mem.specs.Code.{IsKeptAmong, IsKeptAt, code_of, codes_with, entry_of, no_code, word_in};
 
 use crate::number::number_of;
 use guest_model::Area;
@@ -9,6 +9,7 @@ use guest_model::platform::MAPS_START;
 use rv_isa::{Instr, Op, decode};
 use std::alloc::{AllocError, Global};
 use std::marker::Model;
+use std::mem;
 use std::sync::Arc;
 
 /// The entry of a word that has no instruction. An ebreak says to look at the word again.
@@ -75,41 +76,47 @@ impl Code {
 #[derive(Drop)]
 pub(crate) struct KeptCode {
     alloc: Global,
-    parts: Vec<Arc<Code, Global>>,
+    /// The part that was added last, which is at hand.
+    last: Arc<Code, Global>,
+    /// The parts before it.
+    others: Vec<Arc<Code, Global>>,
 }
 
 impl Model for KeptCode {
-    ghost use Rattle.std.specs.Prelude.{List, map};
+    ghost use Rattle.std.specs.Prelude.{List, [], ◌∷◌, ◌++◌, map};
     ghost use Rattle.std.specs.Arc.{arc_value};
     ghost use Rattle.guest_mem.specs.Code.{CodeFields};
 
     ghost Value = { List CodeFields };
 
-    ghost view = { λ k. map arc_value k.parts.items };
+    ghost view = { λ k. map arc_value k.others.items ++ arc_value k.last ∷ [] };
 }
 
 impl KeptCode {
     /// No code.
-    pub(crate) fn none(alloc: Global) -> KeptCode
-        ensures { result ≡ [] }
+    pub(crate) fn none(alloc: Global) -> Result<KeptCode, AllocError>
+        ensures { IfOk result (λ code. code ≡ no_code ∷ []) }
     {
-        KeptCode {
+        let entries = Vec::new(alloc);
+        Ok(KeptCode {
             alloc,
-            parts: Vec::new(alloc),
-        }
+            last: Arc::new(alloc, Code { start: 0, entries })?,
+            others: Vec::new(alloc),
+        })
     }
 
     /// The same code, with room for one part more.
     pub(crate) fn share(&self) -> Result<KeptCode, AllocError>
         ensures { IfOk result (λ code. code ≡ self.now) }
     {
-        let mut parts = Vec::with_capacity(self.alloc, self.parts.len() + 1)?;
-        for part in &self.parts {
-            parts.push(Arc::try_clone(part)?)?;
+        let mut others = Vec::with_capacity(self.alloc, self.others.len() + 1)?;
+        for part in &self.others {
+            others.push(Arc::try_clone(part)?)?;
         }
         Ok(KeptCode {
             alloc: self.alloc,
-            parts,
+            last: Arc::try_clone(&self.last)?,
+            others,
         })
     }
 
@@ -121,24 +128,26 @@ impl KeptCode {
         let mut code = self.share()?;
         if area.execute && !area.write && area.end <= MAPS_START {
             let part = Code::of(self.alloc, at, bytes)?;
-            code.parts.push(Arc::new(self.alloc, part)?)?;
+            let part = Arc::new(self.alloc, part)?;
+            let before = mem::replace(&mut code.last, part);
+            code.others.push(before)?;
         }
         Ok(code)
     }
 
-    /// The instruction at an address, if it is of the code that was kept first.
+    /// The instruction at an address, if it is of the part that was added last.
     #[inline(always)]
-    pub(crate) fn first_at(&self, pc: u32) -> Option<&Instr>
+    pub(crate) fn last_at(&self, pc: u32) -> Option<&Instr>
         ensures { IfSome result (λ i. IsKeptAmong self.now pc i.now) }
     {
-        self.parts.first()?.at(pc)
+        self.last.at(pc)
     }
 
-    /// The instruction at an address, if it is kept.
-    pub(crate) fn at(&self, pc: u32) -> Option<&Instr>
+    /// The instruction at an address, if it is of the parts before that one.
+    pub(crate) fn other_at(&self, pc: u32) -> Option<&Instr>
         ensures { IfSome result (λ i. IsKeptAmong self.now pc i.now) }
     {
-        for part in &self.parts {
+        for part in &self.others {
             if let Some(i) = part.at(pc) {
                 return Some(i);
             }

@@ -97,7 +97,7 @@ impl Space {
             next_map: MAPS_START,
             rights,
             pages,
-            code: KeptCode::none(alloc),
+            code: KeptCode::none(alloc)?,
         })
     }
 
@@ -270,7 +270,7 @@ impl Space {
     pub fn kept_at(&self, at: u32) -> Option<&Instr>
         ensures { IfSome result (λ i. word_at self.now.space at ≡ Some (Some i.now)) }
     {
-        let i = self.code.first_at(at)?;
+        let i = self.code.last_at(at)?;
         Some(i)
     }
 
@@ -280,7 +280,7 @@ impl Space {
         ensures { MatchResult result (λ i. word_at self.now.space at ≡ Some i)
             (λ _. word_at self.now.space at ≡ None) }
     {
-        if let Some(i) = self.code.at(at) {
+        if let Some(i) = self.code.other_at(at) {
             return Ok(Some(*i));
         }
         match self.fetch(at) {
