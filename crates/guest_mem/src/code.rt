@@ -9,7 +9,7 @@ use guest_model::platform::MAPS_START;
 use rv_isa::{Instr, Op, decode};
 use std::alloc::{AllocError, Global};
 use std::marker::Model;
-use std::mem;
+use std::mem::{self, size_of};
 use std::sync::Arc;
 
 /// The entry of a word that has no instruction. An ebreak says to look at the word again.
@@ -20,6 +20,8 @@ const LOOK_AGAIN: Instr = Instr {
     rs2: 0,
     imm: 0,
 };
+
+const _: () = prove!(size_of::<Instr>() == 8);
 
 /// The instructions of words that stand one after the other, to be read in place.
 #[derive(Drop)]

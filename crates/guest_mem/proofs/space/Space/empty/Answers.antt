@@ -1,4 +1,4 @@
-use Rattle.std.proofs.Common.{ap, arith}
+use Rattle.std.proofs.Common.{ap}
 use Rattle.cow_pages.specs.Contents.{Contents}
 use Rattle.guest_mem.proofs.Freezing.{origin_begun}
 use Rattle.guest_mem.proofs.Kept.{none_kept}
