@@ -89,8 +89,9 @@ impl Guest {
         ensures { HasRun steps pages self.old self.new result }
     {
         let _written = self.memory.written();
+        let mut pc = self.pc;
         for completed in 0..steps {
-            match self.step_of_run() {
+            match self.step_of_run(&mut pc) {
                 Stepped::Next => {
                     if self.memory.written() > pages {
                         return Ran {
@@ -119,18 +120,28 @@ impl Guest {
         }
     }
 
-    // The same as a step, within the loop of a run.
+    // The same as a step, within the loop of a run, which has pc in a local place.
     #[inline(always)]
-    fn step_of_run(&mut self) -> Stepped
-        requires { HasAllFrames self.old.frames (stored_by (effect_of self.old.machine)) }
-        ensures { Gives (effect_of self.old.machine) result self.old self.new }
+    fn step_of_run(&mut self, pc: &mut u32) -> Stepped
+        requires frames { HasAllFrames self.old.frames (stored_by (effect_of self.old.machine)) }
+        requires pc { pc.old ≡ self.old.machine.pc }
+        ensures gives { Gives (effect_of self.old.machine) result self.old self.new }
+        ensures pc { result ≡ Stepped.Next → pc.new ≡ self.new.machine.pc }
     {
-        match self.memory.kept_at(self.pc) {
+        match self.memory.kept_at(*pc) {
             Some(i) => {
                 let i = fields_of(i);
-                self.carry_out::<true>(&i)
+                let stepped = self.carry_out::<true>(&i);
+                if let Stepped::Next = stepped {
+                    *pc = self.pc;
+                }
+                stepped
             }
-            None => self.step(),
+            None => {
+                let stepped = self.step();
+                *pc = self.pc;
+                stepped
+            }
         }
     }
 
