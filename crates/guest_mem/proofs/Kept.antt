@@ -8,6 +8,7 @@ use Rattle.std.proofs.lemmas.List.Elements.{All-append}
 use Rattle.std.proofs.lemmas.List.FromFn.{get_or-map-range_with_len, length-map-range_with_len}
 use Rattle.rv_isa.specs.Decoded.{decoded}
 use Rattle.rv_isa.specs.Table.{Fields}
+use Rattle.rv_isa.specs.declared.op.Op.TheVariants.{Ebreak}
 use Rattle.guest_model.specs.Areas.{all_permitted, is_mapped, holds, permits, is_permitted, wrap}
 use Rattle.guest_model.specs.Bytes.{byte_at, bytes_at, number_of}
 use Rattle.guest_model.specs.Space.{Space, read_number}
@@ -16,7 +17,7 @@ use Rattle.guest_model.specs.declared.Area.{Area}
 use Rattle.guest_model.specs.declared.Access.TheVariants.{Write, Execute}
 use Rattle.guest_model.specs.declared.platform.TheConstants.{MAPS_START}
 use Rattle.frame_pool.specs.Bytes.{is_among}
-use Rattle.guest_mem.specs.Code.{CodeFields, IsFixed, IsKept, IsWordAmong, code_of, codes_with, holds_code, word_at, word_in}
+use Rattle.guest_mem.specs.Code.{CodeFields, IsFixed, IsKept, IsKeptAmong, code_of, codes_with, entry_of, first_word, holds_code, look_again, no_code, word_at, word_in}
 use Rattle.guest_mem.specs.Mapped.{space_over}
 use Rattle.guest_mem.specs.Sound.{is_cut}
 use Rattle.guest_mem.proofs.Added.{IsAdded, IsWithin, among_held, not_permitted}
@@ -44,17 +45,23 @@ word_with old new a same =
 pub kept_stays : (xs ys : List Area) (old new : List ℕ) (code : CodeFields) → CodeStays xs ys old new → IsKept xs old code → IsKept ys new code
 kept_stays xs ys old new code stays kept =
     let end = kept.end in
-    let there : (a : ℕ) → code.start ≤ a → a < code.start + 4 * length code.words → StaysAt ys old new a = λ a from to. stays a (omega (arith, end, to)) (kept.fixed a from to) in
+    let there : (a : ℕ) → code.start ≤ a → a < code.start + 4 * length code.entries → StaysAt ys old new a = λ a from to. stays a (omega (arith, end, to)) (kept.fixed a from to) in
     record {
       end = end;
       fixed = λ a from to. (there a from to).fixed;
       decodes = λ k lt.
           kept.decodes k lt
-          ∙ ap decoded (sym (word_with old new (code.start + 4 * k) (λ j jl. (there (code.start + 4 * k + j) (omega arith) (omega (arith, lt, jl))).byte)));
+          ∙ ap (λ w. entry_of (decoded w)) (sym (word_with old new (code.start + 4 * k) (λ j jl. (there (code.start + 4 * k + j) (omega arith) (omega (arith, lt, jl))).byte)));
     }
 
 pub all_stay : (xs ys : List Area) (old new : List ℕ) (codes : List CodeFields) → CodeStays xs ys old new → All (IsKept xs old) codes → All (IsKept ys new) codes
 all_stay xs ys old new codes stays all = λ k d lt. kept_stays xs ys old new (get_or codes k d) stays (all k d lt)
+
+-- no code is kept
+pub none_kept : (areas : List Area) (all : List ℕ) → All (IsKept areas all) (no_code ∷ [])
+none_kept areas all = λ k d lt.
+    let first : k ≡ 0 = omega (arith, lt) in
+    rw first (record { end = omega arith; fixed = λ a from to. absurd (omega (arith, from, to)); decodes = λ j none. absurd (omega (arith, none)) })
 
 elsewhere : (t : Bool) (x y : ℕ) → (t ≡ true → ⊥) → cond t x y ≡ y
 elsewhere true x y none = absurd (none refl)
@@ -153,6 +160,9 @@ word_given old new at given k le is =
     let fourth = given_byte old new at given (k + 3) (at + k + 3) (omega arith) (omega arith) is in
     rw (first, second, third, fourth) refl
 
+among_bytes : (at n a : ℕ) → at ≤ a → a < at + n → is_among at n a ≡ true
+among_bytes at n a from to = grind (arith, nat_tests)
+
 -- the code of an area that is added
 pub kept_added : (x : Area) (xs ys : List Area) (old new : List ℕ) (brk next new_brk new_next at : ℕ) (given : List ℕ)
     → IsCodeArea x → IsAdded x xs ys brk next new_brk new_next → IsWithin x at (length given)
@@ -162,20 +172,25 @@ kept_added x xs ys old new brk next new_brk new_next at given kind added inside 
     let from = inside.from in
     let within = inside.within in
     let low = kind.low in
-    let count = length given / 4 in
-    let len = length-map-range_with_len (λ k. decoded (word_in given (4 * k))) 0 count in
+    let skipped = first_word at - at in
+    let count = (length given - skipped) / 4 in
+    let len = length-map-range_with_len (λ k. entry_of (decoded (word_in given (skipped + 4 * k)))) 0 count in
+    let fits : 4 * count ≤ length given - skipped = omega arith in
+    let start : first_word at ≡ at + skipped = omega arith in
     record {
-      end = omega (arith, len, within, low);
+      end = omega (arith, len, within, low, fits, start);
       fixed = λ a f t.
-          let held : holds x a ≡ true = among_held x at (length given) a from within (grind (arith, nat_tests, len)) in
+          let among : is_among at (length given) a ≡ true = among_bytes at (length given) a (omega (arith, f, start)) (omega (arith, t, len, fits, start)) in
+          let held : holds x a ≡ true = among_held x at (length given) a from within among in
           record {
             executed = added.permitted Execute a ∙ held_executed (permits Execute x) (holds x a) (is_permitted Execute xs a) kind.executed held;
             unwritten = added.permitted Write a ∙ held_unwritten (permits Write x) (holds x a) (is_permitted Write xs a) kind.unwritten (not_permitted Write xs a (added.apart a held));
           };
       decodes = λ k lt.
           let few : k < count = omega (arith, len, lt) in
-          get_or-map-range_with_len (λ j. decoded (word_in given (4 * j))) 0 count k k None few (omega arith)
-          ∙ ap decoded (sym (word_given old new at given (4 * k) (omega (arith, few)) is));
+          let place : at + (skipped + 4 * k) ≡ first_word at + 4 * k = omega (arith, start) in
+          get_or-map-range_with_len (λ j. entry_of (decoded (word_in given (skipped + 4 * j)))) 0 count k k look_again few (omega arith)
+          ∙ ap (λ w. entry_of (decoded w)) (sym (ap (word_in new) (sym place) ∙ word_given old new at given (skipped + 4 * k) (omega (arith, few, fits)) is));
     }
 
 code_area : (x : Area) → holds_code x ≡ true → IsCodeArea x
@@ -208,25 +223,30 @@ word_over s all a holds le =
     let fourth : wrap (a + 3) ≡ a + 3 = omega arith in
     rw (first, second, third, fourth, holds a, holds (a + 1), holds (a + 2), holds (a + 3)) refl
 
--- a word that is kept is that of the space
-pub word_kept : (s : Space) (areas : List Area) (all : List ℕ) (brk next a : ℕ) (codes : List CodeFields) (word : Option Fields)
+-- the entry of a word that is no ebreak is the word's instruction
+entry_is : (o : Option Fields) (i : Fields) → entry_of o ≡ i → (i.op ≡ Ebreak → ⊥) → o ≡ Some i
+entry_is None i is none = absurd (none (ap (λ (f : Fields). f.op) (sym is)))
+entry_is (Some j) i is none = ap Some is
+
+-- an instruction that is kept is that of the word there
+pub entry_kept : (s : Space) (areas : List Area) (all : List ℕ) (brk next a : ℕ) (codes : List CodeFields) (i : Fields)
     → space_over areas all brk next ≡ s → ((q : ℕ) → is_mapped areas q ≡ false → get_or all q 0 ≡ 0)
-    → All (IsKept areas all) codes → IsWordAmong codes a word → a < 2 ^ 32 → word_at s a ≡ Some word
+    → All (IsKept areas all) codes → IsKeptAmong codes a i → a < 2 ^ 32 → word_at s a ≡ Some (Some i)
 unfolding read_number
-word_kept s areas all brk next a codes word is rest kept found fits =
-    let code = get_or codes found.j (record { start = 0; words = [] }) in
-    let here = kept found.j (record { start = 0; words = [] }) found.within in
-    let there = found.at (record { start = 0; words = [] }) in
+entry_kept s areas all brk next a codes i is rest kept found fits =
+    let code = get_or codes found.j (record { start = 0; entries = [] }) in
+    let here = kept found.j (record { start = 0; entries = [] }) found.within in
+    let there = found.at (record { start = 0; entries = [] }) in
     let end = here.end in
     let k = there.k in
     let within = there.within in
     let place : a ≡ code.start + 4 * k = omega (arith, there.at, end, within) in
     let permitted : all_permitted Execute s.areas a 4 ≡ true =
-    all_permitted_from Execute s.areas a 4 (λ i lt.
-    let same : wrap (a + i) ≡ a + i = omega (arith, place, end, within, lt) in
+    all_permitted_from Execute s.areas a 4 (λ j lt.
+    let same : wrap (a + j) ≡ a + j = omega (arith, place, end, within, lt) in
     ap (is_permitted Execute s.areas) same
-    ∙ ap (λ (t : Space). is_permitted Execute t.areas (a + i)) (sym is)
-    ∙ (here.fixed (a + i) (omega (arith, place)) (omega (arith, place, within, lt))).executed) in
+    ∙ ap (λ (t : Space). is_permitted Execute t.areas (a + j)) (sym is)
+    ∙ (here.fixed (a + j) (omega (arith, place)) (omega (arith, place, within, lt))).executed) in
     rw permitted (ap Some (
     ap decoded (word_over s all a (byte_of_space s areas all brk next is rest) (omega (arith, place, end, within)) ∙ ap (word_in all) place)
-    ∙ sym (here.decodes k within) ∙ there.is))
+    ∙ entry_is (decoded (word_in all (code.start + 4 * k))) i (sym (here.decodes k within) ∙ there.is) there.other))

@@ -119,6 +119,16 @@ impl RightsTable {
     pub(crate) fn allows(&self, page: u32, access: Access) -> bool
         ensures { result ≡ allows_access access (slice_index_or self.now page no_rights) }
     {
+        match self.own.get(page as usize) {
+            Some(rights) => rights.allows(access),
+            None => self.allows_behind(page, access),
+        }
+    }
+
+    /// The same, where the table has no entry of its own for the page.
+    fn allows_behind(&self, page: u32, access: Access) -> bool
+        ensures { result ≡ allows_access access (slice_index_or self.now page no_rights) }
+    {
         match self.entries().get(page as usize) {
             Some(rights) => rights.allows(access),
             None => false,
@@ -126,7 +136,6 @@ impl RightsTable {
     }
 
     /// The entries that count.
-    #[inline(always)]
     fn entries(&self) -> &[Rights]
         ensures { result.now ≡ self.now }
     {

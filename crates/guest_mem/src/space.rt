@@ -1,6 +1,6 @@
 // A guest's memory.
 ghost use Rattle.std.specs.Prelude.{[], ◌∷◌, ◌++◌, ◌≡◌, ◌≢◌, ℕ, ◌+◌, ◌-◌, ◌*◌, ◌/◌, ◌%◌, ◌^◌, ◌<◌};
-ghost use Rattle.std.specs.Prelude.{◌≤◌, ◌⊎◌, true, false, length, IfOk, MatchResult, OnOk, OnErr};
+ghost use Rattle.std.specs.Prelude.{◌≤◌, ◌⊎◌, true, false, length, IfOk, IfSome, MatchResult, OnOk, OnErr};
 ghost use Rattle.std.specs.Prelude.{Some, None, IsTrue, ◌↔◌};
 ghost use Rattle.guest_model.specs.Areas.{is_mapped, is_permitted, all_permitted};
 ghost use Rattle.guest_model.specs.Areas.{is_range_permitted, holds, wrap};
@@ -99,7 +99,7 @@ impl Space {
             next_map: MAPS_START,
             rights,
             pages,
-            code: KeptCode::none(alloc),
+            code: KeptCode::none(alloc)?,
         })
     }
 
@@ -265,18 +265,31 @@ impl Space {
         ensures { MatchResult result (λ i. word_at self.now.space at ≡ Some i)
             (λ _. word_at self.now.space at ≡ None) }
     {
-        match self.code.at(at) {
-            Some(word) => Ok(word.instr()),
+        match self.kept_at(at) {
+            Some(i) => Ok(Some(*i)),
             None => self.decode_at(at),
         }
     }
 
-    /// The same, where the word is not kept decoded.
+    /// The instruction at `at`, read in place where it is at hand. None says nothing of the word
+    /// there.
+    #[inline(always)]
+    pub fn kept_at(&self, at: u32) -> Option<&Instr>
+        ensures { IfSome result (λ i. word_at self.now.space at ≡ Some (Some i.now)) }
+    {
+        let i = self.code.last_at(at)?;
+        Some(i)
+    }
+
+    /// The same as `instruction_at`, where the instruction is not at hand.
     #[inline(never)]
     fn decode_at(&self, at: u32) -> Result<Option<Instr>, Denied>
         ensures { MatchResult result (λ i. word_at self.now.space at ≡ Some i)
             (λ _. word_at self.now.space at ≡ None) }
     {
+        if let Some(i) = self.code.other_at(at) {
+            return Ok(Some(*i));
+        }
         match self.fetch(at) {
             Ok(word) => Ok(decode(word)),
             Err(denied) => Err(denied),

@@ -1,14 +1,15 @@
 // One step: fetch, decode, carry out.
-ghost use Rattle.std.specs.Prelude.{◌≡◌, ◌<◌};
-ghost use Rattle.guest_model.specs.Effect.{effect_of, effect_by, stored_by, rs1_value, rs2_value};
+ghost use Rattle.std.specs.Prelude.{◌≡◌, ◌<◌, MatchResult, Some};
+ghost use Rattle.guest_model.specs.Effect.{Effect, effect_of, effect_by, stored_by, rs1_value, rs2_value};
 ghost use Rattle.guest_model.specs.Effect.{immediate, address, target, machine_at, machine_with};
 ghost use Rattle.guest_model.specs.Effect.{passes, writes, computes, jumps, branches, loads};
 ghost use Rattle.guest_model.specs.Effect.{stores};
 ghost use Rattle.guest_model.specs.Machine.{following};
+ghost use Rattle.guest_mem.specs.Code.{word_at};
 ghost use Rattle.guest_mem.specs.Frames.{HasAllFrames};
 ghost use Rattle.rv_isa.specs.Kinds.{mem_size};
 ghost use Rattle.rv_machine.specs.Ran.{HasFramesFor, HasRun};
-ghost use Rattle.rv_machine.specs.Step.{Gives, status_of};
+ghost use Rattle.rv_machine.specs.Step.{Gives, kind_number, status_of};
 
 use crate::guest::Guest;
 use rv_isa::{Instr, Op, alu, is_taken, is_terminator, loaded, mem_size};
@@ -66,11 +67,19 @@ impl End {
 #[tactic(auto, using(guest_mem::proofs::Ranges::takes_none))]
 impl Guest {
     /// Tries the instruction at pc. Two free frames always suffice.
+    #[inline(never)]
     pub fn step(&mut self) -> Stepped
         requires { HasAllFrames self.old.frames (stored_by (effect_of self.old.machine)) }
         ensures { Gives (effect_of self.old.machine) result self.old self.new }
     {
-        self.try_step()
+        let i = match self.memory.kept_at(self.pc) {
+            Some(i) => fields_of(i),
+            None => match self.look_up() {
+                Ok(i) => i,
+                Err(kind) => return Stepped::Fault(kind),
+            },
+        };
+        self.carry_out::<false>(&i)
     }
 
     /// Makes at most `steps` steps. It stops before a call or a fault, and behind a step after which
@@ -80,8 +89,9 @@ impl Guest {
         ensures { HasRun steps pages self.old self.new result }
     {
         let _written = self.memory.written();
+        let mut pc = self.pc;
         for completed in 0..steps {
-            match self.try_step() {
+            match self.step_of_run(&mut pc) {
                 Stepped::Next => {
                     if self.memory.written() > pages {
                         return Ran {
@@ -110,22 +120,50 @@ impl Guest {
         }
     }
 
+    // The same as a step, within the loop of a run, which has pc in a local place.
     #[inline(always)]
+    fn step_of_run(&mut self, pc: &mut u32) -> Stepped
+        requires frames { HasAllFrames self.old.frames (stored_by (effect_of self.old.machine)) }
+        requires pc { pc.old ≡ self.old.machine.pc }
+        ensures gives { Gives (effect_of self.old.machine) result self.old self.new }
+        ensures pc { result ≡ Stepped.Next → pc.new ≡ self.new.machine.pc }
+    {
+        match self.memory.kept_at(*pc) {
+            Some(i) => {
+                let i = fields_of(i);
+                let stepped = self.carry_out::<true>(&i);
+                if let Stepped::Next = stepped {
+                    *pc = self.pc;
+                }
+                stepped
+            }
+            None => {
+                let stepped = self.step();
+                *pc = self.pc;
+                stepped
+            }
+        }
+    }
+
+    // The instruction at pc, where it is not kept decoded, or the fault of the word there.
+    #[inline(never)]
     #[tactic(auto, unfolding(guest_model::specs::Effect::effect_of))]
-    fn try_step(&mut self) -> Stepped
-        requires { HasAllFrames self.old.frames (stored_by (effect_of self.old.machine)) }
-        ensures { Gives (effect_of self.old.machine) result self.old self.new }
+    fn look_up(&self) -> Result<Instr, FaultKind>
+        ensures { MatchResult result
+            (λ i. word_at self.now.machine.space self.now.machine.pc ≡ Some (Some i))
+            (λ kind. effect_of self.now.machine ≡ Effect.Fault (kind_number kind)) }
     {
         match self.memory.instruction_at(self.pc) {
-            Err(_) => Stepped::Fault(FaultKind::Access),
-            Ok(None) => Stepped::Fault(FaultKind::Illegal),
-            Ok(Some(i)) => self.carry_out(&i),
+            Err(_) => Err(FaultKind::Access),
+            Ok(None) => Err(FaultKind::Illegal),
+            Ok(Some(i)) => Ok(i),
         }
     }
 
     // Carries out an instruction. Each operation has an arm of its own, in which what depends on it
-    // alone is settled.
-    fn carry_out(&mut self, i: &Instr) -> Stepped
+    // alone is settled. A step and the loop of a run have each an instance of this function, which is
+    // put into the one place that calls it.
+    fn carry_out<const IN_RUN: bool>(&mut self, i: &Instr) -> Stepped
         requires { HasAllFrames self.old.frames (stored_by (effect_by i.now.op self.old.machine i.now)) }
         ensures { Gives (effect_by i.now.op self.old.machine i.now) result self.old self.new }
     {
@@ -310,6 +348,20 @@ impl Guest {
             }
             Err(_) => Stepped::Fault(FaultKind::Access),
         }
+    }
+}
+
+// The instruction, each field of which is read where it stands.
+#[inline(always)]
+fn fields_of(i: &Instr) -> Instr
+    ensures { result ≡ i.now }
+{
+    Instr {
+        op: i.op,
+        rd: i.rd,
+        rs1: i.rs1,
+        rs2: i.rs2,
+        imm: i.imm,
     }
 }
 
