@@ -29,7 +29,8 @@ use Rattle.tool_law.specs.Events.{step_events, trace_events}
 use Rattle.tool_law.specs.Planning as planning
 use Rattle.tool_law.specs.Planning.{called_of, routine_starting}
 use Rattle.tool_counts.specs.Calls.{block_count_calls, call_before, instruction_calls}
-use Rattle.tool_counts.specs.Counts.{is_own, length_of, own_events}
+use Rattle.tool_counts.specs.Counts.{length_of, own_events}
+use Rattle.tool_parts.specs.Calls.{is_own}
 use Rattle.tool_counts.proofs.Effects.{exit_ends, fault_without, next_leads}
 
 -- nothing but one call is called at an address: at its block, or at its instruction
