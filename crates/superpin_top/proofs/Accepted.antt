@@ -1,8 +1,9 @@
 -- The words are accepted exactly in the forms that are stated.
-use Rattle.std.proofs.Common.{◌≡◌, ◌<◌, ◌≤◌, ◌^◌, ◌&&◌, ℕ, zero, suc, List, [], ◌∷◌, ◌++◌, drop, length, get_or, true, false, Bool, refl, ap, ◌∙◌, arith, subst, sym}
+use Rattle.std.proofs.Common.{◌≡◌, ◌<◌, ◌≤◌, ◌^◌, ◌&&◌, inl, inr, ℕ, zero, suc, List, [], ◌∷◌, ◌++◌, drop, length, get_or, true, false, Bool, refl, ap, ◌∙◌, arith, subst, sym}
 use Rattle.std.specs.Prelude.{◌↔◌, ◌==◌, not, nat_le, Option, None, Some, is_some, option_and_then, codes, if◌then◌else◌, slice_get, slice_index}
 use Rattle.std.specs.List.{flat_map, list_all, All}
-use Rattle.std.specs.Option.{unwrap_or}
+use Rattle.std.specs.Int.{is_power_of_two}
+use Rattle.std.specs.Option.{option_map, unwrap_or}
 use Rattle.std.specs.Fmt.{decimal}
 use Rattle.std.specs.Str.Parse.{digits_value}
 use Rattle.std.proofs.lemmas.Bool.{and_parts, and_from, not-true, false≢true}
@@ -12,10 +13,12 @@ use Rattle.std.proofs.lemmas.List.{append-nil}
 use Rattle.std.proofs.lemmas.List.Elements.{All-nil, All-cons, All-head, All-tail}
 use Rattle.std.proofs.lemmas.Str.Parse.{IsDigitsTest, IsNumeralModel, numerals_by_value}
 use Rattle.std.proofs.lemmas.Fmt.{decimal-digits_value, decimal_digit, decimal_nonempty, first_decimal, digits_decimal, digits_value-decimal}
-use Rattle.superpin_top.specs.Words.{is_digit, is_number, budget_of, is_plain, is_word, is_form, with_serial, with_budget, with_tool, tool_named, tool_word, asked_with, behind_options, no_options, most_budget, default_budget, default_tool, asked, asked_run, asked_view, asked_with_view, Asked, ToRun, ToView, Request}
-use Rattle.superpin_top.specs.Accepted.{IsPlain, IsCommand, IsBudget, Names, RunOption, BySerial, Budget, OfTool, option_words, serial_in, budget_in, tool_in, AreRun, AreView, AreAccepted}
+use Rattle.superpin_top.specs.Words.{is_digit, is_number, budget_of, is_plain, is_word, is_form, with_serial, with_budget, with_tool, tool_named, cache_by, cache_named, cache_sized, cache_with, most_size, size_of, split_colon, usual_cache, with_front, asked_with, behind_options, no_options, most_budget, default_budget, default_tool, asked, asked_run, asked_view, asked_with_view, Asked, ToRun, ToView, Request}
+use Rattle.superpin_top.specs.Accepted.{IsPlain, IsCommand, IsBudget, IsNamed, IsToolWord, Names, RunOption, BySerial, Budget, OfTool, option_words, serial_in, budget_in, tool_in, AreRun, AreView, AreAccepted}
 use Rattle.superpin_top.specs.declared.tools.ToolName.{ToolName}
-use Rattle.superpin_top.specs.declared.tools.ToolName.TheVariants.{Icount, Bcount, Mix, Blocks}
+use Rattle.cache_tool.specs.Sizes.{is_line, is_sets}
+use Rattle.superpin_top.specs.Tools.{HasSizes}
+use Rattle.superpin_top.specs.declared.tools.ToolName.TheVariants.{Icount, Bcount, Mix, Blocks, Calls, Cache}
 use Rattle.superpin_top.specs.declared.words.Options.{Options}
 
 abbrev request : Options → List (List ℕ) → Request
@@ -124,21 +127,20 @@ not_zero : (n : ℕ) (d : List ℕ) → decimal n ≡ d → (slice_index d 0 ≡
 not_zero zero d e h = absurd (h (ap (λ (x : List ℕ). slice_index x 0) (sym e ∙ decimal_digit 0 (omega arith))))
 not_zero (suc n) d e h = omega arith
 
-budget_to : (d : List ℕ) (n : ℕ) → budget_of d ≡ Some n → IsBudget n × (d ≡ decimal n)
-unfolding budget_of
-budget_to d n h =
-    let got = if_some (is_number d && nat_le (digits_value 10 d) most_budget) (Some (digits_value 10 d)) n h in
-    let both = and_parts (is_number d) (nat_le (digits_value 10 d) most_budget) got.0 in
+number_to_text : (most : ℕ) (d : List ℕ) (n : ℕ) → most < 2 ^ 64 → (if is_number d && nat_le (digits_value 10 d) most then Some (digits_value 10 d) else None) ≡ Some n → ((1 ≤ n) × (n ≤ most)) × (d ≡ decimal n)
+number_to_text most d n room h =
+    let got = if_some (is_number d && nat_le (digits_value 10 d) most) (Some (digits_value 10 d)) n h in
+    let both = and_parts (is_number d) (nat_le (digits_value 10 d) most) got.0 in
     let number = and_parts (not (length d == 0) && not (slice_index d 0 == 48)) (list_all is_digit d) both.0 in
     let front = and_parts (not (length d == 0)) (not (slice_index d 0 == 48)) number.0 in
     let value : digits_value 10 d ≡ n = some_same (digits_value 10 d) n got.1 in
-    let most : digits_value 10 d ≤ most_budget = at_most (digits_value 10 d) both.1 in
+    let few : digits_value 10 d ≤ most = at_most (digits_value 10 d) both.1 in
     let first : slice_index d 0 ≡ 48 → ⊥ = not_same (slice_index d 0) 48 front.1 in
-    let text : decimal (digits_value 10 d) ≡ d = decimal-digits_value numerals d number.1 (not_empty d front.0) (λ e. absurd (first e)) (omega arith) in
+    let text : decimal (digits_value 10 d) ≡ d = decimal-digits_value numerals d number.1 (not_empty d front.0) (λ e. absurd (first e)) (omega (arith, few, room)) in
     let whole : decimal n ≡ d = subst (λ (m : ℕ). decimal m ≡ d) value text in
-    ((not_zero n d whole first, subst (λ (m : ℕ). m ≤ most_budget) value most), sym whole)
+    ((not_zero n d whole first, subst (λ (m : ℕ). m ≤ most) value few), sym whole)
   where
-    at_most : (m : ℕ) → nat_le m most_budget ≡ true → m ≤ most_budget
+    at_most : (m : ℕ) → nat_le m most ≡ true → m ≤ most
     at_most m t = grind (arith, nat_tests)
 
     not_same : (a b : ℕ) → not (a == b) ≡ true → a ≡ b → ⊥
@@ -147,15 +149,14 @@ budget_to d n h =
     not_empty : (ds : List ℕ) → not (length ds == 0) ≡ true → 0 < length ds
     not_empty ds t = grind (arith, nat_tests)
 
-budget_from : (n : ℕ) → IsBudget n → budget_of (decimal n) ≡ Some n
-unfolding budget_of
-budget_from n h =
-    let small : n < 2 ^ 64 = omega arith in
+number_from : (most n : ℕ) → 1 ≤ n → n ≤ most → most < 2 ^ 64 → (if is_number (decimal n) && nat_le (digits_value 10 (decimal n)) most then Some (digits_value 10 (decimal n)) else None) ≡ Some n
+number_from most n some few room =
+    let small : n < 2 ^ 64 = omega (arith, few, room) in
     let value : digits_value 10 (decimal n) ≡ n = digits_value-decimal numerals n small in
     let number : is_number (decimal n) ≡ true =
-    and_from _ _ (and_from _ _ (some_text (decimal n) (decimal_nonempty n small)) (no_zero (get_or (decimal n) 0 0) (first_decimal n h.0 small))) (digits_decimal numerals n small) in
-    let most : nat_le (digits_value 10 (decimal n)) most_budget ≡ true = subst (λ (m : ℕ). nat_le m most_budget ≡ true) (sym value) (is_at_most n h.1) in
-    ap (λ (t : Bool). if t then Some (digits_value 10 (decimal n)) else None) (and_from _ _ number most) ∙ ap Some value
+    and_from _ _ (and_from _ _ (some_text (decimal n) (decimal_nonempty n small)) (no_zero (get_or (decimal n) 0 0) (first_decimal n some small))) (digits_decimal numerals n small) in
+    let within : nat_le (digits_value 10 (decimal n)) most ≡ true = subst (λ (m : ℕ). nat_le m most ≡ true) (sym value) (is_at_most n few) in
+    ap (λ (t : Bool). if t then Some (digits_value 10 (decimal n)) else None) (and_from _ _ number within) ∙ ap Some value
   where
     some_text : (ds : List ℕ) → 0 < length ds → not (length ds == 0) ≡ true
     some_text ds t = grind (arith, nat_tests)
@@ -163,39 +164,161 @@ budget_from n h =
     no_zero : (c : ℕ) → 48 < c → not (c == 48) ≡ true
     no_zero c t = grind (arith, nat_tests)
 
-    is_at_most : (m : ℕ) → m ≤ most_budget → nat_le m most_budget ≡ true
+    is_at_most : (m : ℕ) → m ≤ most → nat_le m most ≡ true
     is_at_most m t = grind (arith, nat_tests)
 
--- a tool's word
-tool_to : (d : List ℕ) (tool : ToolName) → tool_named d ≡ Some tool → d ≡ tool_word tool
-unfolding tool_named
-tool_to d tool h = first (is_word d (tool_word Icount)) refl h
+budget_to : (d : List ℕ) (n : ℕ) → budget_of d ≡ Some n → IsBudget n × (d ≡ decimal n)
+unfolding budget_of
+budget_to d n h = number_to_text most_budget d n (omega arith) h
+
+budget_from : (n : ℕ) → IsBudget n → budget_of (decimal n) ≡ Some n
+unfolding budget_of
+budget_from n h = number_from most_budget n h.0 h.1 (omega arith)
+
+-- a word with a colon
+split_to : (w front rest : List ℕ) → split_colon w ≡ Some (front, rest) → w ≡ front ++ 58 ∷ rest
+split_to [] front rest h = absurd (cc)
+split_to (c ∷ cs) front rest h = go (λ f r k. split_to cs f r k) (c == 58) refl h
   where
-    fourth : (b : Bool) → is_word d (tool_word Blocks) ≡ b → (if b then Some Blocks else None) ≡ Some tool → d ≡ tool_word tool
-    fourth true e h = same_word d (tool_word Blocks) e ∙ ap tool_word (some_same Blocks tool h)
-    fourth false e h = absurd (cc)
+    later : ((f r : List ℕ) → split_colon cs ≡ Some (f, r) → cs ≡ f ++ 58 ∷ r) → (o : Option (List ℕ × List ℕ)) → split_colon cs ≡ o → option_map (with_front c) o ≡ Some (front, rest) → c ∷ cs ≡ front ++ 58 ∷ rest
+    later again None e g = absurd (cc)
+    later again (Some p) e g =
+        let same : with_front c p ≡ (front, rest) = some_same (with_front c p) (front, rest) g in
+        ap (λ (xs : List ℕ). c ∷ xs) (again p.0 p.1 e) ∙ ap (λ (q : List ℕ × List ℕ). q.0 ++ 58 ∷ q.1) same
 
-    third : (b : Bool) → is_word d (tool_word Mix) ≡ b → (if b then Some Mix else if is_word d (tool_word Blocks) then Some Blocks else None) ≡ Some tool → d ≡ tool_word tool
-    third true e h = same_word d (tool_word Mix) e ∙ ap tool_word (some_same Mix tool h)
-    third false e h = fourth (is_word d (tool_word Blocks)) refl h
+    go : ((f r : List ℕ) → split_colon cs ≡ Some (f, r) → cs ≡ f ++ 58 ∷ r) → (b : Bool) → (c == 58) ≡ b
+        → (if b then Some ([], cs) else option_map (with_front c) (split_colon cs)) ≡ Some (front, rest) → c ∷ cs ≡ front ++ 58 ∷ rest
+    go again true e g =
+        let same : ([], cs) ≡ (front, rest) = some_same ([], cs) (front, rest) g in
+        ap (λ (x : ℕ). x ∷ cs) ((Decides-eqb c 58).0 e) ∙ ap (λ (q : List ℕ × List ℕ). q.0 ++ 58 ∷ q.1) same
+    go again false e g = later again (split_colon cs) refl g
 
-    second : (b : Bool) → is_word d (tool_word Bcount) ≡ b
-        → (if b then Some Bcount else if is_word d (tool_word Mix) then Some Mix else if is_word d (tool_word Blocks) then Some Blocks else None) ≡ Some tool → d ≡ tool_word tool
-    second true e h = same_word d (tool_word Bcount) e ∙ ap tool_word (some_same Bcount tool h)
-    second false e h = third (is_word d (tool_word Mix)) refl h
+not_colon : (c : ℕ) → is_digit c ≡ true → (c == 58) ≡ false
+not_colon c h = grind (arith, nat_tests)
 
-    first : (b : Bool) → is_word d (tool_word Icount) ≡ b
-        → (if b then Some Icount else if is_word d (tool_word Bcount) then Some Bcount else if is_word d (tool_word Mix) then Some Mix else if is_word d (tool_word Blocks) then Some Blocks else None) ≡ Some tool
-        → d ≡ tool_word tool
-    first true e h = same_word d (tool_word Icount) e ∙ ap tool_word (some_same Icount tool h)
-    first false e h = second (is_word d (tool_word Bcount)) refl h
+split_digits : (ds rest : List ℕ) → list_all is_digit ds ≡ true → split_colon (ds ++ 58 ∷ rest) ≡ Some (ds, rest)
+split_digits [] rest h = refl
+split_digits (d ∷ ds) rest h =
+    let parts = and_parts (is_digit d) (list_all is_digit ds) h in
+    ap (λ (b : Bool). if b then Some ([], ds ++ 58 ∷ rest) else option_map (with_front d) (split_colon (ds ++ 58 ∷ rest))) (not_colon d parts.0)
+    ∙ ap (λ (o : Option (List ℕ × List ℕ)). option_map (with_front d) o) (split_digits ds rest parts.1)
 
-tool_from : (tool : ToolName) → tool_named (tool_word tool) ≡ Some tool
+power_positive : (n : ℕ) → is_power_of_two n ≡ true → 1 ≤ n
+unfolding lib.Count.ones
+power_positive zero h = absurd (false≢true h)
+power_positive (suc n) h = omega arith
+
+-- a cache's word
+cache_text : (d name sizes s l : List ℕ) (sets line : ℕ) → d ≡ name ++ 58 ∷ sizes → name ≡ codes "cache" → sizes ≡ s ++ 58 ∷ l → s ≡ decimal sets → l ≡ decimal line
+    → d ≡ codes "cache:" ++ (decimal sets ++ (codes ":" ++ decimal line))
+cache_text d name sizes s l sets line whole named split first second =
+    whole ∙ ap (λ (xs : List ℕ). xs ++ 58 ∷ sizes) named ∙ ap (λ (xs : List ℕ). codes "cache" ++ 58 ∷ xs) split
+    ∙ ap (λ (xs : List ℕ). codes "cache" ++ 58 ∷ (xs ++ 58 ∷ l)) first ∙ ap (λ (xs : List ℕ). codes "cache" ++ 58 ∷ (decimal sets ++ 58 ∷ xs)) second
+
+size_to : (d : List ℕ) (n : ℕ) → size_of d ≡ Some n → d ≡ decimal n
+unfolding size_of
+size_to d n h = (number_to_text most_size d n (omega arith) h).1
+
+size_from : (n : ℕ) → 1 ≤ n → n ≤ most_size → size_of (decimal n) ≡ Some n
+unfolding size_of
+size_from n some few = number_from most_size n some few (omega arith)
+
+sized_to : (s l : List ℕ) (tool : ToolName) → cache_sized s l ≡ Some tool → (sets line : ℕ) × (s ≡ decimal sets) × (l ≡ decimal line) × (is_sets sets ≡ true) × (is_line line ≡ true) × (Cache sets line ≡ tool)
+sized_to s l tool h =
+    let first = then_some (λ (n : ℕ). option_and_then (λ k. cache_with n k) (size_of l)) (size_of s) tool h in
+    let second = then_some (λ (k : ℕ). cache_with first.0 k) (size_of l) tool first.2 in
+    let sized = if_some (is_sets first.0 && is_line second.0) (Some (Cache first.0 second.0)) tool second.2 in
+    let fits = and_parts (is_sets first.0) (is_line second.0) sized.0 in
+    (first.0, second.0, size_to s first.0 first.1, size_to l second.0 second.1, fits.0, fits.1, some_same (Cache first.0 second.0) tool sized.1)
+
+by_to : (d name sizes : List ℕ) (tool : ToolName) → d ≡ name ++ 58 ∷ sizes → cache_by name sizes ≡ Some tool → IsToolWord d tool
+by_to d name sizes tool whole h =
+    let named = if_some (is_word name (codes "cache")) (option_and_then (λ p. cache_sized p.0 p.1) (split_colon sizes)) tool h in
+    let split = then_some (λ (p : List ℕ × List ℕ). cache_sized p.0 p.1) (split_colon sizes) tool named.1 in
+    let got = sized_to split.0.0 split.0.1 tool split.2 in
+    subst (IsToolWord d) got.6
+    (inr (cache_text d name sizes split.0.0 split.0.1 got.0 got.1 whole (same_word name (codes "cache") named.0) (split_to sizes split.0.0 split.0.1 split.1) got.2 got.3, (got.4, got.5)))
+
+cache_to : (d : List ℕ) (tool : ToolName) → cache_named d ≡ Some tool → IsToolWord d tool
+unfolding cache_named
+cache_to d tool h =
+    let split = then_some (λ (p : List ℕ × List ℕ). cache_by p.0 p.1) (split_colon d) tool h in by_to d split.0.0 split.0.1 tool (split_to d split.0.0 split.0.1 split.1) split.2
+
+at_most_size : (n : ℕ) → nat_le n 4096 ≡ true → n ≤ most_size
+at_most_size n h = grind (arith, nat_tests)
+
+sets_range : (n : ℕ) → is_sets n ≡ true → (1 ≤ n) × (n ≤ most_size)
+sets_range n h = let parts = and_parts (is_power_of_two n) (nat_le n 4096) h in (power_positive n parts.0, at_most_size n parts.1)
+
+line_range : (n : ℕ) → is_line n ≡ true → (1 ≤ n) × (n ≤ most_size)
+line_range n h =
+    let parts = and_parts (is_power_of_two n) (nat_le 4 n && nat_le n 4096) h in (power_positive n parts.0, at_most_size n (and_parts (nat_le 4 n) (nat_le n 4096) parts.1).1)
+
+sized_from : (sets line : ℕ) → is_sets sets ≡ true → is_line line ≡ true → cache_sized (decimal sets) (decimal line) ≡ Some (Cache sets line)
+sized_from sets line has_sets has_line =
+    let s = sets_range sets has_sets in
+    let l = line_range line has_line in
+    ap (λ (o : Option ℕ). option_and_then (λ n. option_and_then (λ k. cache_with n k) (size_of (decimal line))) o) (size_from sets s.0 s.1)
+    ∙ ap (λ (o : Option ℕ). option_and_then (λ k. cache_with sets k) o) (size_from line l.0 l.1)
+    ∙ ap (λ (b : Bool). if b then Some (Cache sets line) else None) (and_from _ _ has_sets has_line)
+
+cache_from : (sets line : ℕ) → is_sets sets ≡ true → is_line line ≡ true → cache_named (codes "cache:" ++ (decimal sets ++ (codes ":" ++ decimal line))) ≡ Some (Cache sets line)
+unfolding cache_named
+cache_from sets line has_sets has_line =
+    let s = sets_range sets has_sets in
+    ap (λ (o : Option (List ℕ × List ℕ)). option_and_then (λ p. cache_sized p.0 p.1) o) (split_digits (decimal sets) (decimal line) (digits_decimal numerals sets (omega (arith, s.1))))
+    ∙ sized_from sets line has_sets has_line
+
+-- a tool's word
+tool_to : (d : List ℕ) (tool : ToolName) → tool_named d ≡ Some tool → IsToolWord d tool
 unfolding tool_named
-tool_from Icount = refl
-tool_from Bcount = refl
-tool_from Mix = refl
-tool_from Blocks = refl
+tool_to d tool h = first (is_word d (codes "icount")) refl h
+  where
+    is_it : (word : List ℕ) (named : ToolName) → is_word d word ≡ true → (d ≡ word → IsToolWord d named) → Some named ≡ Some tool → IsToolWord d tool
+    is_it word named e so g = subst (IsToolWord d) (some_same named tool g) (so (same_word d word e))
+
+    sixth : (b : Bool) → is_word d (codes "cache") ≡ b → (if b then Some usual_cache else cache_named d) ≡ Some tool → IsToolWord d tool
+    sixth true e g = is_it (codes "cache") usual_cache e (λ w. inl (w, (refl, refl))) g
+    sixth false e g = cache_to d tool g
+
+    fifth : (b : Bool) → is_word d (codes "calls") ≡ b → (if b then Some Calls else if is_word d (codes "cache") then Some usual_cache else cache_named d) ≡ Some tool → IsToolWord d tool
+    fifth true e g = is_it (codes "calls") Calls e (λ w. w) g
+    fifth false e g = sixth (is_word d (codes "cache")) refl g
+
+    fourth : (b : Bool) → is_word d (codes "blocks") ≡ b
+        → (if b then Some Blocks else if is_word d (codes "calls") then Some Calls else if is_word d (codes "cache") then Some usual_cache else cache_named d) ≡ Some tool → IsToolWord d tool
+    fourth true e g = is_it (codes "blocks") Blocks e (λ w. w) g
+    fourth false e g = fifth (is_word d (codes "calls")) refl g
+
+    third : (b : Bool) → is_word d (codes "mix") ≡ b
+        → (if b then Some Mix else if is_word d (codes "blocks") then Some Blocks else if is_word d (codes "calls") then Some Calls else if is_word d (codes "cache") then Some usual_cache else cache_named d) ≡ Some tool
+        → IsToolWord d tool
+    third true e g = is_it (codes "mix") Mix e (λ w. w) g
+    third false e g = fourth (is_word d (codes "blocks")) refl g
+
+    second : (b : Bool) → is_word d (codes "bcount") ≡ b
+        → (if b then Some Bcount else if is_word d (codes "mix") then Some Mix else if is_word d (codes "blocks") then Some Blocks else if is_word d (codes "calls") then Some Calls
+        else if is_word d (codes "cache") then Some usual_cache else cache_named d) ≡ Some tool
+        → IsToolWord d tool
+    second true e g = is_it (codes "bcount") Bcount e (λ w. w) g
+    second false e g = third (is_word d (codes "mix")) refl g
+
+    first : (b : Bool) → is_word d (codes "icount") ≡ b
+        → (if b then Some Icount else if is_word d (codes "bcount") then Some Bcount else if is_word d (codes "mix") then Some Mix else if is_word d (codes "blocks") then Some Blocks
+        else if is_word d (codes "calls") then Some Calls else if is_word d (codes "cache") then Some usual_cache else cache_named d) ≡ Some tool
+        → IsToolWord d tool
+    first true e g = is_it (codes "icount") Icount e (λ w. w) g
+    first false e g = second (is_word d (codes "bcount")) refl g
+
+tool_from : (d : List ℕ) (tool : ToolName) → IsToolWord d tool → tool_named d ≡ Some tool
+unfolding tool_named
+tool_from d Icount h = ap tool_named h
+tool_from d Bcount h = ap tool_named h
+tool_from d Mix h = ap tool_named h
+tool_from d Blocks h = ap tool_named h
+tool_from d Calls h = ap tool_named h
+tool_from d (Cache sets line) (inl (w, (s, l))) = ap tool_named w ∙ ap (λ (n : ℕ). Some (Cache n 32)) (sym s) ∙ ap (λ (n : ℕ). Some (Cache sets n)) (sym l)
+tool_from d (Cache sets line) (inr (w, (s, l))) = ap tool_named w ∙ cache_from sets line s l
 
 -- what options that were read say, each of its kind
 abbrev listed : {X : Type 0} → Option X → List X
@@ -212,6 +335,7 @@ record Reads (o : Options) (given : List RunOption) (p : Options) : Type 0 where
   budget : listed p.budget ≡ listed o.budget ++ flat_map budget_in given
   tool : listed p.tool ≡ listed o.tool ++ flat_map tool_in given
   allowed : All IsBudget (flat_map budget_in given)
+  named : All IsNamed given
 
 -- words that are read from o to r
 record Read (o : Options) (ws : List (List ℕ)) (r : Request) : Type 0 where
@@ -225,17 +349,18 @@ record Read (o : Options) (ws : List (List ℕ)) (r : Request) : Type 0 where
 
 -- one option more in front
 reads_none : (o : Options) → Reads o [] o
-reads_none o = record { serial = sym (append-nil (marked o.serial)); budget = sym (append-nil (listed o.budget)); tool = sym (append-nil (listed o.tool)); allowed = All-nil IsBudget }
+reads_none o = record { serial = sym (append-nil (marked o.serial)); budget = sym (append-nil (listed o.budget)); tool = sym (append-nil (listed o.tool)); allowed = All-nil IsBudget; named = All-nil IsNamed }
 
 reads_serial : (o : Options) (given : List RunOption) (p : Options) → o.serial ≡ false → Reads (record o { serial = true }) given p → Reads o (BySerial ∷ given) p
-reads_serial o given p none h = record { serial = h.serial ∙ ap (λ (b : Bool). marked b ++ BySerial ∷ flat_map serial_in given) (sym none); budget = h.budget; tool = h.tool; allowed = h.allowed }
+reads_serial o given p none h = record { serial = h.serial ∙ ap (λ (b : Bool). marked b ++ BySerial ∷ flat_map serial_in given) (sym none); budget = h.budget; tool = h.tool; allowed = h.allowed; named = All-cons IsNamed BySerial given tt h.named }
 
 reads_budget : (o : Options) (n : ℕ) (given : List RunOption) (p : Options) → IsBudget n → o.budget ≡ None → Reads (record o { budget = Some n }) given p → Reads o (Budget n ∷ given) p
 reads_budget o n given p ok none h =
-    record { serial = h.serial; budget = h.budget ∙ ap (λ (b : Option ℕ). listed b ++ n ∷ flat_map budget_in given) (sym none); tool = h.tool; allowed = All-cons IsBudget n (flat_map budget_in given) ok h.allowed }
+    record { serial = h.serial; budget = h.budget ∙ ap (λ (b : Option ℕ). listed b ++ n ∷ flat_map budget_in given) (sym none); tool = h.tool; allowed = All-cons IsBudget n (flat_map budget_in given) ok h.allowed; named = All-cons IsNamed (Budget n) given tt h.named }
 
-reads_tool : (o : Options) (tool : ToolName) (given : List RunOption) (p : Options) → o.tool ≡ None → Reads (record o { tool = Some tool }) given p → Reads o (OfTool tool ∷ given) p
-reads_tool o tool given p none h = record { serial = h.serial; budget = h.budget; tool = h.tool ∙ ap (λ (b : Option ToolName). listed b ++ tool ∷ flat_map tool_in given) (sym none); allowed = h.allowed }
+reads_tool : (o : Options) (word : List ℕ) (tool : ToolName) (given : List RunOption) (p : Options) → IsToolWord word tool → o.tool ≡ None → Reads (record o { tool = Some tool }) given p → Reads o (OfTool word tool ∷ given) p
+reads_tool o word tool given p is none h =
+    record { serial = h.serial; budget = h.budget; tool = h.tool ∙ ap (λ (b : Option ToolName). listed b ++ tool ∷ flat_map tool_in given) (sym none); allowed = h.allowed; named = All-cons IsNamed (OfTool word tool) given is h.named }
 
 no_value : {X : Type 0} (o : Option X) → is_some o ≡ false → o ≡ None
 no_value None h = refl
@@ -300,14 +425,13 @@ read_budget o w v rest p r budget read behind =
 read_tool : (o : Options) (w v : List ℕ) (rest : List (List ℕ)) (p : Options) (r : Request) → is_word w (codes "--tool") ≡ true → with_tool o (tool_named v) ≡ Some p → Read p rest r → Read o (w ∷ v ∷ rest) r
 read_tool o w v rest p r named read behind =
     let got = name_to o (tool_named v) p read in
-    let text = tool_to v got.0 got.1 in
-    let words : w ∷ v ∷ rest ≡ codes "--tool" ∷ tool_word got.0 ∷ flat_map option_words behind.given ++ r.strings =
-    ap (λ (x : List ℕ). x ∷ v ∷ rest) (same_word w (codes "--tool") named) ∙ (ap (λ (x : List ℕ). codes "--tool" ∷ x ∷ rest) text ∙ ap (λ (xs : List (List ℕ)). codes "--tool" ∷ tool_word got.0 ∷ xs) behind.words_are) in
+    let words : w ∷ v ∷ rest ≡ codes "--tool" ∷ v ∷ flat_map option_words behind.given ++ r.strings =
+    ap (λ (x : List ℕ). x ∷ v ∷ rest) (same_word w (codes "--tool") named) ∙ ap (λ (xs : List (List ℕ)). codes "--tool" ∷ v ∷ xs) behind.words_are in
     record {
-      given = OfTool got.0 ∷ behind.given;
+      given = OfTool v got.0 ∷ behind.given;
       last = behind.last;
       words_are = words;
-      reads = reads_tool o got.0 behind.given behind.last got.2 (subst (λ (q : Options). Reads q behind.given behind.last) (sym got.3) behind.reads);
+      reads = reads_tool o v got.0 behind.given behind.last (tool_to v got.0 got.1) got.2 (subst (λ (q : Options). Reads q behind.given behind.last) (sym got.3) behind.reads);
       command = behind.command;
       serial = behind.serial;
       made = behind.made;
@@ -381,20 +505,20 @@ read_from o [] p ws h serial command =
 read_from o (BySerial ∷ given) p ws h serial command =
     let none = once_serial o.serial p.serial (flat_map serial_in given) h.serial in
     let read : with_serial o (codes "serial") ≡ Some (record o { serial = true }) = ap (λ (b : Bool). if not b then Some (record o { serial = true }) else None) none in
-    let reads : Reads (record o { serial = true }) given p = record { serial = h.serial ∙ ap (λ (b : Bool). marked b ++ BySerial ∷ flat_map serial_in given) none; budget = h.budget; tool = h.tool; allowed = h.allowed } in
+    let reads : Reads (record o { serial = true }) given p = record { serial = h.serial ∙ ap (λ (b : Bool). marked b ++ BySerial ∷ flat_map serial_in given) none; budget = h.budget; tool = h.tool; allowed = h.allowed; named = All-tail IsNamed BySerial given h.named } in
     ap (λ (m : Option Options). option_and_then (λ (q : Options). behind_options q (flat_map option_words given ++ ws)) m) read ∙ read_from (record o { serial = true }) given p ws reads serial command
 read_from o (Budget n ∷ given) p ws h serial command =
     let none = one_at_most o.budget p.budget n (flat_map budget_in given) h.budget in
     let read : with_budget o (budget_of (decimal n)) ≡ Some (record o { budget = Some n }) =
     ap (with_budget o) (budget_from n (All-head IsBudget n (flat_map budget_in given) h.allowed)) ∙ ap (λ (b : Option ℕ). if is_some b then None else Some (record o { budget = Some n })) none in
     let reads : Reads (record o { budget = Some n }) given p =
-    record { serial = h.serial; budget = h.budget ∙ ap (λ (b : Option ℕ). listed b ++ n ∷ flat_map budget_in given) none; tool = h.tool; allowed = All-tail IsBudget n (flat_map budget_in given) h.allowed } in
+    record { serial = h.serial; budget = h.budget ∙ ap (λ (b : Option ℕ). listed b ++ n ∷ flat_map budget_in given) none; tool = h.tool; allowed = All-tail IsBudget n (flat_map budget_in given) h.allowed; named = All-tail IsNamed (Budget n) given h.named } in
     ap (λ (m : Option Options). option_and_then (λ (q : Options). behind_options q (flat_map option_words given ++ ws)) m) read ∙ read_from (record o { budget = Some n }) given p ws reads serial command
-read_from o (OfTool tool ∷ given) p ws h serial command =
+read_from o (OfTool word tool ∷ given) p ws h serial command =
     let none = one_at_most o.tool p.tool tool (flat_map tool_in given) h.tool in
-    let read : with_tool o (tool_named (tool_word tool)) ≡ Some (record o { tool = Some tool }) =
-    ap (with_tool o) (tool_from tool) ∙ ap (λ (b : Option ToolName). if is_some b then None else Some (record o { tool = Some tool })) none in
-    let reads : Reads (record o { tool = Some tool }) given p = record { serial = h.serial; budget = h.budget; tool = h.tool ∙ ap (λ (b : Option ToolName). listed b ++ tool ∷ flat_map tool_in given) none; allowed = h.allowed } in
+    let read : with_tool o (tool_named word) ≡ Some (record o { tool = Some tool }) =
+    ap (with_tool o) (tool_from word tool (All-head IsNamed (OfTool word tool) given h.named)) ∙ ap (λ (b : Option ToolName). if is_some b then None else Some (record o { tool = Some tool })) none in
+    let reads : Reads (record o { tool = Some tool }) given p = record { serial = h.serial; budget = h.budget; tool = h.tool ∙ ap (λ (b : Option ToolName). listed b ++ tool ∷ flat_map tool_in given) none; allowed = h.allowed; named = All-tail IsNamed (OfTool word tool) given h.named } in
     ap (λ (m : Option Options). option_and_then (λ (q : Options). behind_options q (flat_map option_words given ++ ws)) m) read ∙ read_from (record o { tool = Some tool }) given p ws reads serial command
 
 -- an option's value, or the one that stands where none is named
@@ -428,6 +552,7 @@ run_to (command ∷ ws) r h =
       serial = sym read.reads.serial ∙ ap marked read.serial;
       budget = subst (λ (q : Request). Names (flat_map budget_in read.given) default_budget q.budget) read.made (names_to read.last.budget (flat_map budget_in read.given) default_budget read.reads.budget);
       allowed = subst (λ (q : Request). IsBudget q.budget) read.made (allowed_of read.last.budget (flat_map budget_in read.given) read.reads.budget read.reads.allowed);
+      named = read.reads.named;
       tool = subst (λ (q : Request). Names (flat_map tool_in read.given) default_tool q.tool) read.made (names_to read.last.tool (flat_map tool_in read.given) default_tool read.reads.tool);
       command = read.command;
     }
@@ -438,7 +563,7 @@ run_from words r h =
     let budget = named (flat_map budget_in h.options) default_budget r.budget h.budget in
     let tool = named (flat_map tool_in h.options) default_tool r.tool h.tool in
     let p : Options = record { serial = true; budget = budget.0; tool = tool.0 } in
-    let reads : Reads no_options h.options p = record { serial = sym h.serial; budget = budget.1; tool = tool.1; allowed = all_allowed (flat_map budget_in h.options) r.budget h.budget h.allowed } in
+    let reads : Reads no_options h.options p = record { serial = sym h.serial; budget = budget.1; tool = tool.1; allowed = all_allowed (flat_map budget_in h.options) r.budget h.budget h.allowed; named = h.named } in
     ap asked_run h.words_are
     ∙ (read_from no_options h.options p r.strings reads refl h.command
     ∙ (ap (λ (n : ℕ). Some (record { budget = n; tool = unwrap_or tool.0 default_tool; strings = r.strings })) budget.2
@@ -486,3 +611,29 @@ accepted words a = (accepted_to words a, accepted_from words a)
 -- a run that is asked for has at most the most steps
 pub budget_asked : (words : List (List ℕ)) (r : Request) → asked_run words ≡ Some r → r.budget ≤ most_budget
 budget_asked words r h = (run_to words r h).allowed.1
+
+-- the cache that is asked for has sizes that it may have
+word_sizes : (word : List ℕ) (tool : ToolName) → IsToolWord word tool → HasSizes tool
+unfolding lib.Count.ones
+word_sizes word Icount h = tt
+word_sizes word Bcount h = tt
+word_sizes word Mix h = tt
+word_sizes word Blocks h = tt
+word_sizes word Calls h = tt
+word_sizes word (Cache sets line) (inl (w, (s, l))) = (ap is_sets s, ap is_line l)
+word_sizes word (Cache sets line) (inr (w, fits)) = fits
+
+option_sizes : (options : List RunOption) → All IsNamed options → All HasSizes (flat_map tool_in options)
+option_sizes [] h = All-nil HasSizes
+option_sizes (BySerial ∷ options) h = option_sizes options (All-tail IsNamed BySerial options h)
+option_sizes (Budget n ∷ options) h = option_sizes options (All-tail IsNamed (Budget n) options h)
+option_sizes (OfTool word tool ∷ options) h =
+    All-cons HasSizes tool (flat_map tool_in options) (word_sizes word tool (All-head IsNamed (OfTool word tool) options h)) (option_sizes options (All-tail IsNamed (OfTool word tool) options h))
+
+named_sizes : (tools : List ToolName) (tool : ToolName) → All HasSizes tools → Names tools default_tool tool → HasSizes tool
+named_sizes [] tool all h = subst HasSizes (sym h) tt
+named_sizes (t ∷ []) tool all h = subst HasSizes (sym h) (All-head HasSizes t [] all)
+named_sizes (t ∷ u ∷ rest) tool all h = absurd h
+
+pub sizes_asked : (words : List (List ℕ)) (r : Request) → asked_run words ≡ Some r → HasSizes r.tool
+sizes_asked words r h = let are = run_to words r h in named_sizes (flat_map tool_in are.options) r.tool (option_sizes are.options are.named) are.tool

@@ -6,3 +6,4 @@ pub mod Ready
 pub mod Fronts
 pub mod Headline
 pub mod Texts
+pub mod Colons

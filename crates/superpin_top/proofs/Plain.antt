@@ -1,6 +1,6 @@
 -- Words, and the numbers that they write.
 use Rattle.std.proofs.Common.{◌≡◌, ◌<◌, ◌≤◌, ◌^◌, ◌&&◌, ℕ, List, [], ◌∷◌, length, true, false, Bool, refl, ap, ◌∙◌, arith, subst, sym, inl, inr, false, ◌-◌, get_or, take, drop}
-use Rattle.std.specs.Prelude.{Option, None, Some, option_and_then, codes, if◌then◌else◌, String, string_bytes}
+use Rattle.std.specs.Prelude.{nat_le, Option, None, Some, option_and_then, codes, if◌then◌else◌, String, string_bytes}
 use Rattle.std.specs.List.{list_all}
 use Rattle.std.specs.declared.alloc.Global.{Global}
 use Rattle.std.specs.Str.Parse.{AllDigits, IsNumeral, digits_value, without_leading_plus}
@@ -8,7 +8,7 @@ use Rattle.std.specs.Char.{digit_value}
 use Rattle.std.proofs.lemmas.List.{length-map, take_rest}
 use Rattle.std.proofs.lemmas.Bool.{and_parts, cases_lt}
 use Rattle.std.proofs.lemmas.Bool.Decides.{nat_tests}
-use Rattle.superpin_top.specs.Words.{is_digit, is_number, budget_of, is_plain, is_word, texts, with_serial, with_budget, with_tool, tool_named, asked_with, behind_options, Request}
+use Rattle.superpin_top.specs.Words.{is_digit, is_number, budget_of, most_budget, most_size, size_of, is_plain, is_word, texts, with_serial, with_budget, with_tool, tool_named, asked_with, behind_options, Request}
 use Rattle.superpin_top.specs.declared.words.Options.{Options}
 
 digit_small : (c : ℕ) → is_digit c ≡ true → digit_value c < 10
@@ -23,10 +23,10 @@ no_plus : (ds : List ℕ) → list_all is_digit ds ≡ true → 0 < length ds �
 no_plus [] h some = refl
 no_plus (c ∷ cs) h some = let parts = and_parts (is_digit c) _ h in let first = parts.0 in grind (arith, nat_tests)
 
--- what is too large to be read is no budget
-too_large : (ds : List ℕ) → is_number ds ≡ true → (IsNumeral 10 ds × (digits_value 10 ds < 2 ^ 64) → ⊥) → budget_of ds ≡ None
-unfolding budget_of
-too_large ds h never =
+-- what is too large to be read is no number up to a bound that can be read
+too_large : (most : ℕ) (ds : List ℕ) → most < 2 ^ 64 → is_number ds ≡ true → (IsNumeral 10 ds × (digits_value 10 ds < 2 ^ 64) → ⊥)
+    → (if is_number ds && nat_le (digits_value 10 ds) most then Some (digits_value 10 ds) else None) ≡ None
+too_large most ds room h never =
     let parts = and_parts _ (list_all is_digit ds) h in
     let some : 0 < length ds = grind (arith, nat_tests, parts.0) in
     let large : 2 ^ 64 ≤ digits_value 10 ds = elim (cases_lt (digits_value 10 ds) (2 ^ 64)) [
@@ -35,11 +35,20 @@ too_large ds h never =
     ] in
     grind (arith, nat_tests)
 
-pub unread_budget : (ds : List ℕ) → is_number ds ≡ true → (IsNumeral 10 (without_leading_plus ds) × (digits_value 10 (without_leading_plus ds) < 2 ^ 64) → ⊥) → budget_of ds ≡ None
-unread_budget ds h never =
+unread : (most : ℕ) (ds : List ℕ) → most < 2 ^ 64 → is_number ds ≡ true → (IsNumeral 10 (without_leading_plus ds) × (digits_value 10 (without_leading_plus ds) < 2 ^ 64) → ⊥)
+    → (if is_number ds && nat_le (digits_value 10 ds) most then Some (digits_value 10 ds) else None) ≡ None
+unread most ds room h never =
     let parts = and_parts _ (list_all is_digit ds) h in
     let some : 0 < length ds = grind (arith, nat_tests, parts.0) in
-    too_large ds h (subst (λ (xs : List ℕ). IsNumeral 10 xs × (digits_value 10 xs < 2 ^ 64) → ⊥) (no_plus ds parts.1 some) never)
+    too_large most ds room h (subst (λ (xs : List ℕ). IsNumeral 10 xs × (digits_value 10 xs < 2 ^ 64) → ⊥) (no_plus ds parts.1 some) never)
+
+pub unread_budget : (ds : List ℕ) → is_number ds ≡ true → (IsNumeral 10 (without_leading_plus ds) × (digits_value 10 (without_leading_plus ds) < 2 ^ 64) → ⊥) → budget_of ds ≡ None
+unfolding budget_of
+unread_budget ds h never = unread most_budget ds (omega arith) h never
+
+pub unread_size : (ds : List ℕ) → is_number ds ≡ true → (IsNumeral 10 (without_leading_plus ds) × (digits_value 10 (without_leading_plus ds) < 2 ^ 64) → ⊥) → size_of ds ≡ None
+unfolding size_of
+unread_size ds h never = unread most_size ds (omega arith) h never
 
 -- the words of strings, one by one
 pub all_plain : (words : List (String Global)) → list_all is_plain (texts words) ≡ list_all (λ w. is_plain (string_bytes w)) words

@@ -1,12 +1,13 @@
 -- The command words.
 use Rattle.std.specs.Prelude.{ℕ, ◌<◌, ◌^◌, Bool, ◌&&◌, ◌==◌, not, true, false, nat_le, nat_eq, List, [], ◌∷◌, length, map, Option, None, Some, is_some, option_and_then, codes, if◌then◌else◌, slice_index, String, string_bytes}
 use Rattle.std.specs.List.{list_all}
-use Rattle.std.specs.Option.{unwrap_or}
+use Rattle.std.specs.Option.{option_map, unwrap_or}
 use Rattle.std.specs.Str.Parse.{IsNumeral, digits_value, without_leading_plus}
 use Rattle.std.specs.declared.alloc.Global.{Global}
 use Rattle.std.specs.Cmp.Lexicographic.{pointwise}
 use Rattle.superpin_top.specs.declared.tools.ToolName.{ToolName}
-use Rattle.superpin_top.specs.declared.tools.ToolName.TheVariants.{Icount, Bcount, Mix, Blocks}
+use Rattle.cache_tool.specs.Sizes.{is_line, is_sets}
+use Rattle.superpin_top.specs.declared.tools.ToolName.TheVariants.{Icount, Bcount, Mix, Blocks, Calls, Cache}
 use Rattle.superpin_top.specs.declared.words.Options.{Options}
 
 -- the bytes of each word
@@ -53,21 +54,49 @@ IsUnread word = IsNumeral 10 (without_leading_plus word) × (digits_value 10 (wi
 unfoldable pub budget_of : List ℕ → Option ℕ
 budget_of word = if is_number word && nat_le (digits_value 10 word) most_budget then Some (digits_value 10 word) else None
 
--- the word of each tool
-abbrev pub tool_word : ToolName → List ℕ
-tool_word Icount = codes "icount"
-tool_word Bcount = codes "bcount"
-tool_word Mix = codes "mix"
-tool_word Blocks = codes "blocks"
+-- the cache where no sizes are named
+abbrev pub usual_cache : ToolName
+usual_cache = Cache 64 32
+
+-- what stands before the first colon, and behind it
+abbrev pub with_front : ℕ → List ℕ × List ℕ → List ℕ × List ℕ
+with_front c p = (c ∷ p.0, p.1)
+
+abbrev pub split_colon : List ℕ → Option (List ℕ × List ℕ)
+split_colon [] = None
+split_colon (c ∷ cs) = if c == 58 then Some ([], cs) else option_map (with_front c) (split_colon cs)
+
+-- a size of a cache is a number up to the largest that any has
+abbrev pub most_size : ℕ
+most_size = 4096
+
+unfoldable pub size_of : List ℕ → Option ℕ
+size_of word = if is_number word && nat_le (digits_value 10 word) most_size then Some (digits_value 10 word) else None
+
+abbrev pub cache_with : ℕ → ℕ → Option ToolName
+cache_with sets line = if is_sets sets && is_line line then Some (Cache sets line) else None
+
+-- a cache by the words of its sizes
+abbrev pub cache_sized : List ℕ → List ℕ → Option ToolName
+cache_sized sets line = option_and_then (λ s. option_and_then (λ l. cache_with s l) (size_of line)) (size_of sets)
+
+abbrev pub cache_by : List ℕ → List ℕ → Option ToolName
+cache_by name sizes = if is_word name (codes "cache") then option_and_then (λ p. cache_sized p.0 p.1) (split_colon sizes) else None
+
+-- `cache:S:B`, a cache of S sets whose lines have B bytes
+unfoldable pub cache_named : List ℕ → Option ToolName
+cache_named word = option_and_then (λ p. cache_by p.0 p.1) (split_colon word)
 
 -- the tool that a word names, and the one where none is named
 unfoldable pub tool_named : List ℕ → Option ToolName
 tool_named word =
-    if is_word word (tool_word Icount) then Some Icount
-    else if is_word word (tool_word Bcount) then Some Bcount
-    else if is_word word (tool_word Mix) then Some Mix
-    else if is_word word (tool_word Blocks) then Some Blocks
-    else None
+    if is_word word (codes "icount") then Some Icount
+    else if is_word word (codes "bcount") then Some Bcount
+    else if is_word word (codes "mix") then Some Mix
+    else if is_word word (codes "blocks") then Some Blocks
+    else if is_word word (codes "calls") then Some Calls
+    else if is_word word (codes "cache") then Some usual_cache
+    else cache_named word
 
 abbrev pub default_tool : ToolName
 default_tool = Icount

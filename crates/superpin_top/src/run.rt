@@ -6,11 +6,12 @@ ghost use Rattle.rv_machine.specs.Load.{machine_of};
 ghost use Rattle.superpin_top.specs.Causes.{CausedBy, refusal_of_run};
 ghost use Rattle.superpin_top.specs.Due.{Runs};
 ghost use Rattle.superpin_top.specs.Outcome.{AttemptGives};
-ghost use Rattle.superpin_top.specs.Tools.{meaning_of, with_calls};
+ghost use Rattle.superpin_top.specs.Tools.{HasSizes, meaning_of, with_calls};
 ghost use Rattle.superpin_top.specs.Top.{IsLate};
 
 use crate::report::report;
 use crate::tools::ToolName;
+use cache_tool::DirectCache;
 use elf_load::Image;
 use guest_model::platform::MOST_PAGES;
 use ins_views::Views;
@@ -20,6 +21,7 @@ use sp_host::{Host, Port, write_whole};
 use sp_report::Refusal;
 use std::alloc::Global;
 use syscall_layer::RunFault;
+use tool_calls::CallTrace;
 use tool_counts::{BlockCount, BlockProfile, InsCount, OpMix};
 use tool_law::{Tool, make_plan};
 
@@ -92,6 +94,7 @@ pub(crate) fn run_loaded<H: Host>(
 ) -> Result<u8, Refusal>
     requires frames { MOST_PAGES ≤ guest.frames.count }
     requires budget { budget ≤ MOST_BUDGET }
+    requires sizes { HasSizes tool }
     ensures told { (w : World) (strings : List (List ℕ))
         → (H.told host.old).input ≡ Some w.input → (H.told host.old).moments ≡ Some w.moments
         → guest.machine ≡ machine_of image.now strings →
@@ -110,5 +113,10 @@ pub(crate) fn run_loaded<H: Host>(
         ToolName::Bcount => run_with(alloc, host, image, guest, budget, &BlockCount),
         ToolName::Mix => run_with(alloc, host, image, guest, budget, &OpMix),
         ToolName::Blocks => run_with(alloc, host, image, guest, budget, &BlockProfile),
+        ToolName::Calls => run_with(alloc, host, image, guest, budget, &CallTrace),
+        ToolName::Cache { sets, line } => match DirectCache::new(sets, line) {
+            Some(cache) => run_with(alloc, host, image, guest, budget, &cache),
+            None => unreachable!(),
+        },
     }
 }

@@ -11,4 +11,8 @@ pub(crate) enum ToolName {
     Mix,
     /// How often each block began.
     Blocks,
+    /// Each call, with its depth.
+    Calls,
+    /// A direct-mapped cache of so many sets, whose lines have so many bytes.
+    Cache { sets: u32, line: u32 },
 }

@@ -11,6 +11,7 @@ ghost use Rattle.superpin_top.specs.Outcome.{CanRise};
 ghost use Rattle.superpin_top.specs.Outcome.{NoneRose, IsDelivered, IsDecided, IsEarly, IsCaused};
 ghost use Rattle.superpin_top.specs.Outcome.{AddsFront};
 ghost use Rattle.superpin_top.specs.Outcome.{IsEndedWhereNone};
+ghost use Rattle.superpin_top.specs.Tools.{HasSizes};
 ghost use Rattle.superpin_top.specs.Words.{ToRun, asked, texts};
 ghost use Rattle.superpin_top.specs.Top.{IsBuilt, LoadGives};
 ghost use Rattle.superpin_top.specs.declared.tools.ToolName.{ToolName};
@@ -86,6 +87,7 @@ fn run_asked<H: Host>(
 ) -> Result<u8, Refusal>
     requires some { 0 < length strings.now }
     requires budget { budget ≤ MOST_BUDGET }
+    requires sizes { HasSizes tool }
     ensures early { WhereTold (H.told host.old).files (λ files. IsDecided (task_in files
         (ToRun (record { budget = budget; tool = tool; strings = texts strings.now }))) result) }
     ensures told { WhereAllTold (H.told host.old) (λ files w. AttemptGives (H.told host.old)

@@ -3,17 +3,22 @@ ghost use Rattle.std.specs.Prelude.{◌≡◌, ◌<◌, None, Some, IfSome, Matc
 ghost use Rattle.std.specs.Prelude.{string_bytes};
 ghost use Rattle.std.specs.List.{list_all};
 ghost use Rattle.std.specs.Str.Parse.{digits_value, without_leading_plus};
+ghost use Rattle.superpin_top.specs.Words.{cache_named, cache_sized, cache_with, size_of, split_colon};
 ghost use Rattle.superpin_top.specs.Words.{texts, is_digit, IsUnread, is_number, budget_of};
 ghost use Rattle.superpin_top.specs.Words.{is_plain, with_serial, with_budget, with_tool, is_form, asked_with, tool_named};
 ghost use Rattle.superpin_top.specs.Words.{behind_options, asked_run, asked_view};
 
 use crate::tools::ToolName;
+use cache_tool::{is_line, is_sets};
 
 /// The most steps of a run, where the words name none.
 pub(crate) const DEFAULT_BUDGET: u64 = 1_000_000_000;
 
 // The most steps that the words can name.
 const MOST_BUDGET: u64 = 1_099_511_627_776;
+
+// The largest size of a cache that they can name.
+const MOST_SIZE: u64 = 4096;
 
 /// A run that the words ask for.
 #[derive(Clone, Copy)]
@@ -108,6 +113,60 @@ fn with_budget(options: Options, value: &String) -> Option<Options>
     Some(Options { budget, ..options })
 }
 
+// What stands before the first colon, and behind it.
+fn split_colon(word: &str) -> Option<(&str, &str)>
+    ensures { MatchOption result (split_colon word.now ≡ None)
+        (λ p. split_colon word.now ≡ Some (p.0.now, p.1.now)) }
+{
+    word.split_once(':')
+}
+
+// The size of a cache that a word names.
+#[tactic(auto, unfolding(crate::specs::Words::size_of))]
+fn size_of(word: &str) -> Option<u32>
+    ensures { result ≡ size_of word.now }
+{
+    if !is_number(word.as_bytes()) {
+        return None;
+    }
+    match parsed(word) {
+        Some(n) if n <= MOST_SIZE => Some(n as u32),
+        _ => None,
+    }
+}
+
+// A cache of these sizes, if it may have them.
+fn cache_with(sets: u32, line: u32) -> Option<ToolName>
+    ensures { result ≡ cache_with sets line }
+{
+    if is_sets(sets) && is_line(line) {
+        return Some(ToolName::Cache { sets, line });
+    }
+    None
+}
+
+// The cache of these words.
+fn cache_sized(sets: &str, line: &str) -> Option<ToolName>
+    ensures { result ≡ cache_sized sets.now line.now }
+{
+    let sets = size_of(sets)?;
+    let line = size_of(line)?;
+    cache_with(sets, line)
+}
+
+// The cache that a word names with its sizes.
+#[tactic(auto, unfolding(crate::specs::Words::cache_named))]
+fn cache_named(word: &str) -> Option<ToolName>
+    ensures { result ≡ cache_named word.now }
+{
+    let (name, sizes) = split_colon(word)?;
+    if name != "cache" {
+        return None;
+    }
+    let (sets, line) = split_colon(sizes)?;
+    cache_sized(sets, line)
+}
+
 // The tool that a word names.
 #[tactic(auto, unfolding(crate::specs::Words::tool_named))]
 fn tool_named(word: &str) -> Option<ToolName>
@@ -118,7 +177,9 @@ fn tool_named(word: &str) -> Option<ToolName>
         "bcount" => Some(ToolName::Bcount),
         "mix" => Some(ToolName::Mix),
         "blocks" => Some(ToolName::Blocks),
-        _ => None,
+        "calls" => Some(ToolName::Calls),
+        "cache" => Some(ToolName::Cache { sets: 64, line: 32 }),
+        _ => cache_named(word),
     }
 }
 

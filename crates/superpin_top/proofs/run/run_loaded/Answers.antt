@@ -1,9 +1,10 @@
-use Rattle.std.proofs.Common.{sym, subst}
+use Rattle.std.proofs.Common.{ℕ, ap, sym, subst, ◌∙◌}
 use Rattle.std.specs.Prelude.{Ok}
 use Rattle.superpin_top.specs.Due.{Runs}
 use Rattle.superpin_top.specs.Outcome.{AttemptGives}
 use Rattle.superpin_top.specs.Tools.{meaning_of}
 use Rattle.superpin_top.specs.declared.tools.ToolName.{ToolName}
+use Rattle.superpin_top.specs.declared.tools.ToolName.TheVariants.{Cache}
 use Rattle.superpin_top.proofs.run.run_loaded.Goals as goal
 
 pub returns-in-Icount-clause-told : goal.returns-in-Icount-clause-told
@@ -25,3 +26,15 @@ pub returns-in-Blocks-clause-told : goal.returns-in-Blocks-clause-told
 returns-in-Blocks-clause-told g c w strings input moments begins =
     subst (λ (tool : ToolName). AttemptGives (g.H.Host.told c.args.host.now) (Ok (Runs (record { image = c.args.image.now; strings = strings; budget = c.args.budget; tool = meaning_of c.args.image.now tool }))) w c.run_with-in-Blocks.result
     (g.H.Host.told c.run_with-in-Blocks.new.host)) (sym c.in-Blocks.is) (c.run_with-in-Blocks.ensures.told w strings input moments begins)
+
+pub returns-in-Calls-clause-told : goal.returns-in-Calls-clause-told
+returns-in-Calls-clause-told g c w strings input moments begins =
+    subst (λ (tool : ToolName). AttemptGives (g.H.Host.told c.args.host.now) (Ok (Runs (record { image = c.args.image.now; strings = strings; budget = c.args.budget; tool = meaning_of c.args.image.now tool }))) w c.run_with-in-Calls.result
+    (g.H.Host.told c.run_with-in-Calls.new.host)) (sym c.in-Calls.is) (c.run_with-in-Calls.ensures.told w strings input moments begins)
+
+pub returns-in-Some-clause-told : goal.returns-in-Some-clause-told
+returns-in-Some-clause-told g c w strings input moments begins =
+    let gives = λ (tool : ToolName). AttemptGives (g.H.Host.told c.args.host.now) (Ok (Runs (record { image = c.args.image.now; strings = strings; budget = c.args.budget; tool = meaning_of c.args.image.now tool }))) w c.run_with-in-Some.result
+    (g.H.Host.told c.run_with-in-Some.new.host) in
+    let here : gives (Cache c.in-Some.cache.sets c.in-Some.cache.line) = c.run_with-in-Some.ensures.told w strings input moments begins in
+    subst gives (ap (λ (n : ℕ). Cache n c.in-Some.cache.line) c.in-Some.ensures.sets ∙ ap (λ (n : ℕ). Cache c.in-Cache.sets n) c.in-Some.ensures.line ∙ sym c.in-Cache.is) here

@@ -6,11 +6,14 @@ use Rattle.superpin_top.specs.Outcome.{AttemptGives, IsDecided}
 use Rattle.superpin_top.specs.Top.{IsBuilt}
 use Rattle.superpin_top.specs.Words.{Request, ToRun, ToView, texts}
 use Rattle.superpin_top.proofs.Ready.{attempt_none, is_asked, none_asked, not_asked, run_is_asked, view_is_asked}
-use Rattle.superpin_top.proofs.Accepted.{budget_asked}
+use Rattle.superpin_top.proofs.Accepted.{budget_asked, sizes_asked}
 use Rattle.superpin_top.proofs.top.attempt.Goals as goal
 
 pub run_asked-requires-clause-budget : goal.run_asked-requires-clause-budget
 run_asked-requires-clause-budget g c = budget_asked (texts c.args.words.now) _ c.in-Some.ensures.asked
+
+pub run_asked-requires-clause-sizes : goal.run_asked-requires-clause-sizes
+run_asked-requires-clause-sizes g c = sizes_asked (texts c.args.words.now) _ c.in-Some.ensures.asked
 
 pub returns-in-Some-clause-words : goal.returns-in-Some-clause-words
 returns-in-Some-clause-words g c = (
