@@ -125,6 +125,89 @@ fn tools_report(rt: HostRuntime) -> Result<(), Fail> {
     Ok(())
 }
 
+// A program, the word of a tool, and what it reports.
+struct Reconciled {
+    data: bool,
+    code: &'static [u32],
+    tool: &'static str,
+    text: &'static str,
+    status: u8,
+}
+
+// Two loads of four bytes each, side by side.
+const TWO_LOADS: [u32; 6] = [
+    0x00020337, 0x00032283, 0x00432283, 0x05d00893, 0x00700513, 0x00000073,
+];
+
+// Calls to depth 3, the returns, and a call again.
+const NESTED: [u32; 14] = [
+    0x014000ef, 0x030000ef, 0x05d00893, 0x00700513, 0x00000073, 0x00008413, 0x00c000ef, 0x00040093,
+    0x00008067, 0x00008493, 0x00c000ef, 0x00048093, 0x00008067, 0x00008067,
+];
+
+const RECONCILED: [Reconciled; 5] = [
+    Reconciled {
+        data: true,
+        code: &TWO_LOADS,
+        tool: "cache:2:16",
+        text: "cache 2 16 accesses 2 hits 1 misses 1\nend exit 7\n",
+        status: 7,
+    },
+    Reconciled {
+        data: true,
+        code: &TWO_LOADS,
+        tool: "cache:1:4",
+        text: "cache 1 4 accesses 2 hits 0 misses 2\nend exit 7\n",
+        status: 7,
+    },
+    // The load faults, and is an access to two lines: it is called for before it is tried.
+    Reconciled {
+        data: true,
+        code: &LOAD_PAST_DATA,
+        tool: "cache",
+        text: "cache 64 32 accesses 2 hits 0 misses 2\nend signal 11 at 0x00010078\n",
+        status: 139,
+    },
+    Reconciled {
+        data: false,
+        code: &NESTED,
+        tool: "calls",
+        text: "call 0 0x00010054 0x00010068 -\ncall 1 0x0001006c 0x00010078 -\n\
+            call 2 0x0001007c 0x00010088 -\ncall 0 0x00010058 0x00010088 -\nend exit 7\n",
+        status: 7,
+    },
+    // A jump by a register that keeps where it came from is a call.
+    Reconciled {
+        data: false,
+        code: &[
+            0x000102b7, 0x061280e7, 0, 0x05d00893, 0x00700513, 0x00000073,
+        ],
+        tool: "calls",
+        text: "call 0 0x00010058 0x00010060 -\nend exit 7\n",
+        status: 7,
+    },
+];
+
+fn holds(alloc: Global, row: &Reconciled) -> Result<bool, Fail> {
+    let words = ["run", "--tool", row.tool, "--by", "serial", "f"];
+    let file = if row.data {
+        two_segments(alloc, row.code)?
+    } else {
+        one_segment(alloc, row.code)?
+    };
+    let done = run(alloc, &words, outside_of(alloc, file, 65_536))?;
+    Ok(is_ended(&done.answer, row.status) && are(&done.report, row.text.as_bytes()))
+}
+
+#[test]
+fn reconciling_tools_report(rt: HostRuntime) -> Result<(), Fail> {
+    let alloc = rt.alloc();
+    for (k, row) in RECONCILED.iter().enumerate() {
+        assert!(rt; holds(alloc, row)?, "row {k}");
+    }
+    Ok(())
+}
+
 #[test]
 fn budget_leaves_no_report(rt: HostRuntime) -> Result<(), Fail> {
     let alloc = rt.alloc();

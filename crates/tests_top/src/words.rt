@@ -30,7 +30,7 @@ fn words_are_read(rt: HostRuntime) -> Result<(), Fail> {
     Ok(())
 }
 
-const NOT_BUILT: [&[&str]; 21] = [
+const NOT_BUILT: [&[&str]; 28] = [
     &[],
     &["run"],
     &["run", "f"],
@@ -46,6 +46,13 @@ const NOT_BUILT: [&[&str]; 21] = [
     &["run", "--tool", "icount", "f"],
     &["run", "--by", "serial", "--tool", "f"],
     &["run", "--by", "serial", "--tool", "icounts", "f"],
+    &["run", "--by", "serial", "--tool", "cache:", "f"],
+    &["run", "--by", "serial", "--tool", "cache:64", "f"],
+    &["run", "--by", "serial", "--tool", "cache:3:16", "f"],
+    &["run", "--by", "serial", "--tool", "cache:2:2", "f"],
+    &["run", "--by", "serial", "--tool", "cache:02:16", "f"],
+    &["run", "--by", "serial", "--tool", "cache:8192:16", "f"],
+    &["run", "--by", "serial", "--tool", "cache:2:16:4", "f"],
     &[
         "run", "--by", "serial", "--tool", "mix", "--tool", "mix", "f",
     ],
