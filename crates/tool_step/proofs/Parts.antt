@@ -1,8 +1,9 @@
 -- The events of a step, part by part.
-use Rattle.std.proofs.Common.{◌≡◌, ℕ, not, ◌==◌, ◌+◌, ◌≤◌, Bool, true, false, List, [], ◌++◌, length, refl, sym, ap, ◌∙◌, append_assoc, arith, length-append}
+use Rattle.std.proofs.Common.{◌≡◌, ℕ, not, ◌==◌, ◌+◌, ◌≤◌, Bool, true, false, List, [], ◌++◌, length, refl, sym, ap, subst, ◌∙◌, append_assoc, arith, length-append}
 use Rattle.std.specs.Prelude.{Option, None, Some, unwrap_or, if◌then◌else◌}
 use Rattle.std.specs.List.{flat_map}
 use Rattle.std.specs.Option.{option_map}
+use Rattle.std.proofs.lemmas.Bool.Decides.{nat_tests}
 use Rattle.std.proofs.lemmas.List.{append-nil, length-map, nil_from_length}
 use Rattle.rv_isa.specs.Table.{Fields}
 use Rattle.guest_model.specs.Machine.{Machine, instruction_at}
@@ -12,8 +13,9 @@ use Rattle.insert_points.specs.Events.{Called, events_of, late_events, operands_
 use Rattle.insert_points.specs.Plan.{FewCalls, PlanFields, called_at, is_called}
 use Rattle.insert_points.specs.declared.call.Event.{Event}
 use Rattle.insert_points.specs.declared.operands.Operands.{Operands}
+use Rattle.insert_points.specs.declared.plan.CallsAt.{CallsAt}
 use Rattle.insert_points.specs.declared.planned.PlannedCall.{PlannedCall}
-use Rattle.tool_step.specs.Steps.{events_after, events_by, item_events, operands_of_machine, step_events, events_behind}
+use Rattle.tool_step.specs.Steps.{AreCalls, count_given, events_after, events_by, item_events, operands_of_machine, step_events, events_behind}
 
 -- the events before an instruction
 abbrev pub early_by : Called → Operands → List ℕ → Bool → List Event
@@ -144,3 +146,18 @@ all_is plan before after = go (operands_of_machine before) refl
     go : (o : Option Operands) → operands_of_machine before ≡ o → step_events plan before (Some after) ≡ step_events plan before None ++ events_behind plan o after
     go None e = none_stands plan before (Some after) e ∙ (sym (none_stands plan before None e) ∙ sym (append-nil (step_events plan before None)))
     go (Some o) e = all_by_operands plan before after o e
+
+-- calls that were looked up at an address
+pub calls_given : (plan : PlanFields) (a b : ℕ) (given : CallsAt) → a ≡ b → given.routine.now ≡ (called_at plan a).routine → given.block.now ≡ (called_at plan a).block → given.before.now ≡ (called_at plan a).before
+    → given.after.now ≡ (called_at plan a).after → given.taken.now ≡ (called_at plan a).taken → AreCalls given (called_at plan b)
+calls_given plan a b given same r k f n t = subst (λ (x : ℕ). AreCalls given (called_at plan x)) same (record { routine = r; block = k; before = f; after = n; taken = t })
+
+counts : (given : CallsAt) (called : Called) → AreCalls given called → count_given given ≡ count_of called
+counts given called are = omega (arith, ap length are.routine, ap length are.block, ap length are.before, ap length are.after, ap length are.taken)
+
+no_count : (n k : ℕ) → n ≡ k → (n == 0) ≡ true → not (k == 0) ≡ false
+no_count n k same none = grind (arith, nat_tests)
+
+pub none_given : (plan : PlanFields) (pc a : ℕ) (given : CallsAt) → a ≡ pc → given.routine.now ≡ (called_at plan a).routine → given.block.now ≡ (called_at plan a).block → given.before.now ≡ (called_at plan a).before
+    → given.after.now ≡ (called_at plan a).after → given.taken.now ≡ (called_at plan a).taken → (count_given given == 0) ≡ true → is_called (called_at plan pc) ≡ false
+none_given plan pc a given same r k f n t none = no_count (count_given given) (count_of (called_at plan pc)) (counts given (called_at plan pc) (calls_given plan a pc given same r k f n t)) none

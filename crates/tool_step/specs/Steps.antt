@@ -1,13 +1,14 @@
 -- The events of a run's steps, and what a local stands for that took them.
-use Rattle.std.specs.Prelude.{ℕ, List, [], ◌++◌, Option, None, Some, map}
+use Rattle.std.specs.Prelude.{◌≡◌, ℕ, ◌+◌, List, [], ◌++◌, length, Option, None, Some, map}
 use Rattle.std.specs.List.{flat_map}
 use Rattle.std.specs.Option.{option_map}
 use Rattle.guest_model.specs.Machine.{Machine, instruction_at}
 use Rattle.guest_model.specs.Serial.{TraceItem, item_of}
-use Rattle.insert_points.specs.Events.{event_of, events_of, late_events, operands_of}
+use Rattle.insert_points.specs.Events.{Called, event_of, events_of, late_events, operands_of}
 use Rattle.insert_points.specs.Plan.{PlanFields, called_at}
 use Rattle.insert_points.specs.declared.call.Event.{Event}
 use Rattle.insert_points.specs.declared.operands.Operands.{Operands}
+use Rattle.insert_points.specs.declared.plan.CallsAt.{CallsAt}
 use Rattle.insert_points.specs.declared.planned.PlannedCall.{PlannedCall}
 use Rattle.rv_machine.specs.declared.step.Stepped.{Stepped}
 use Rattle.rv_machine.specs.declared.step.Stepped.TheVariants as answers
@@ -47,6 +48,19 @@ events_after plan o after = late_events (called_at plan o.pc) o (Some after)
 abbrev pub events_behind : PlanFields → Option Operands → Machine → List Event
 events_behind plan None after = []
 events_behind plan (Some o) after = events_after plan o after
+
+-- these calls were looked up
+pub record AreCalls (given : CallsAt) (called : Called) : Type 0 where
+  pub routine : given.routine.now ≡ called.routine
+  pub block : given.block.now ≡ called.block
+  pub before : given.before.now ≡ called.before
+  pub after : given.after.now ≡ called.after
+  pub taken : given.taken.now ≡ called.taken
+
+-- how many they are
+abbrev pub count_given : CallsAt → ℕ
+count_given given =
+    length given.routine.now + length given.block.now + (length given.before.now + length given.after.now + length given.taken.now)
 
 -- the events of calls, with the registers at their point
 abbrev pub events_by : Operands → List ℕ → List PlannedCall → List Event

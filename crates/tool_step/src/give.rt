@@ -1,12 +1,22 @@
 // Gives events to a tool.
-ghost use Rattle.std.specs.Prelude.{◌≡◌, ◌++◌, Bool, false, IsOk, OnOk, List, [], if◌then◌else◌};
+ghost use Rattle.std.specs.Prelude.{◌≡◌, ◌==◌, ◌++◌, Bool, false, IsOk, OnOk, List, [], if◌then◌else◌};
 ghost use Rattle.insert_points.specs.Arguments.{jumps};
-ghost use Rattle.tool_step.specs.Steps.{TakesEvents, events_by};
+ghost use Rattle.tool_step.specs.Steps.{TakesEvents, count_given, events_by};
 
 use insert_points::{CallsAt, Operands, PlannedCall};
 use rv_machine::Guest;
 use std::alloc::AllocError;
 use tool_law::Tool;
+
+/// Whether nothing is called.
+#[inline(always)]
+pub(crate) fn is_nothing(called: &CallsAt<'_>) -> bool
+    ensures { result ≡ (count_given called.now == 0) }
+{
+    let heads = called.routine.len() + called.block.len();
+    let instruction = called.before.len() + called.after.len() + called.taken.len();
+    heads + instruction == 0
+}
 
 /// Gives the events of these calls, with the registers at their point.
 #[inline(always)]

@@ -3,12 +3,12 @@ ghost use Rattle.std.specs.Prelude.{◌≡◌, ◌≤◌, ◌++◌, Option, None
 ghost use Rattle.guest_model.specs.Effect.{effect_of, stored_by};
 ghost use Rattle.guest_model.specs.Machine.{Machine};
 ghost use Rattle.guest_mem.specs.Frames.{HasAllFrames};
-ghost use Rattle.insert_points.specs.Plan.{FewCalls, called_at};
+ghost use Rattle.insert_points.specs.Plan.{called_at};
 ghost use Rattle.rv_machine.specs.Step.{Gives};
-ghost use Rattle.tool_step.specs.Steps.{TakesEvents, completion_of, events_behind, operands_of_machine, step_events};
+ghost use Rattle.tool_step.specs.Steps.{AreCalls, TakesEvents, completion_of, events_behind, operands_of_machine, step_events};
 
-use crate::give::{give_early, give_late};
-use insert_points::{Operands, Plan};
+use crate::give::{give_early, give_late, is_nothing};
+use insert_points::{CallsAt, Operands, Plan};
 use rv_machine::{Guest, Stepped};
 use std::alloc::AllocError;
 use tool_law::Tool;
@@ -46,38 +46,40 @@ pub fn tool_step<T: Tool>(
         → length (step_events plan.now guest.old.machine completion) ≤ 24 }
     ensures steady { T.GROWS ≡ false → IsOk result }
 {
-    if !plan.is_called(guest.pc()) {
+    let called = plan.at(guest.pc());
+    if is_nothing(&called) {
         return Ok(guest.step());
     }
     match operands_at(guest) {
         None => Ok(guest.step()),
-        Some(operands) => called_step(plan, tool, &operands, guest, local),
+        Some(operands) => called_step(plan, tool, &called, &operands, guest, local),
     }
 }
 
-// A step at which something is called.
+// A step at which these calls of the plan are made.
+#[inline(always)]
 fn called_step<T: Tool>(
-    plan: &Plan,
+    _plan: &Plan,
     tool: &T,
+    called: &CallsAt<'_>,
     operands: &Operands,
     guest: &mut Guest,
     local: &mut T::Local,
 ) -> Result<Stepped, AllocError>
     requires frames { HasAllFrames guest.old.frames (stored_by (effect_of guest.old.machine)) }
     requires operands { operands_of_machine guest.old.machine ≡ Some operands.now }
+    requires calls { AreCalls called.now (called_at _plan.now operands.now.pc) }
     ensures step { IfOk result
         (λ stepped. Gives (effect_of guest.old.machine) stepped guest.old guest.new) }
     ensures events { IfOk result (λ stepped. TakesEvents (T.is_local tool.now)
-        (step_events plan.now guest.old.machine (completion_of stepped guest.new.machine))
+        (step_events _plan.now guest.old.machine (completion_of stepped guest.new.machine))
         local.old local.new) }
-    ensures few { FewCalls (called_at plan.now operands.now.pc) }
     ensures steady { T.GROWS ≡ false → IsOk result }
 {
-    let called = plan.at(operands.pc);
-    give_early(tool, &called, operands, guest, local)?;
+    give_early(tool, called, operands, guest, local)?;
     match guest.step() {
         Stepped::Next => {
-            give_late(tool, &called, operands, guest, local)?;
+            give_late(tool, called, operands, guest, local)?;
             Ok(Stepped::Next)
         }
         Stepped::Call => Ok(Stepped::Call),

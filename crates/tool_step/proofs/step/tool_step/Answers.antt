@@ -1,24 +1,24 @@
-use Rattle.std.proofs.Common.{◌≡◌, false, ap, arith, length, sym, ◌∙◌}
+use Rattle.std.proofs.Common.{◌≡◌, ℕ, ap, arith, length, subst, sym, ◌∙◌}
 use Rattle.std.specs.Prelude.{None}
-use Rattle.insert_points.specs.Plan.{called_at, is_called}
+use Rattle.insert_points.specs.Plan.{FewCalls, called_at}
 use Rattle.tool_step.specs.Steps.{completion_of, operands_of_machine}
-use Rattle.tool_step.proofs.Parts.{few_events, none_called, none_stands}
+use Rattle.tool_step.proofs.Parts.{calls_given, few_events, none_called, none_given, none_stands, pc_is}
 use Rattle.tool_step.proofs.Taking.{takes_as, takes_none}
 use Rattle.tool_step.proofs.step.tool_step.Goals as goal
 
-pub returns-then-not-is_called-clause-events : goal.returns-then-not-is_called-clause-events
-returns-then-not-is_called-clause-events g c =
+pub returns-then-is_nothing-clause-events : goal.returns-then-is_nothing-clause-events
+returns-then-is_nothing-clause-events g c =
     let stands = g.T.Tool.is_local c.args.tool.now in
     let plan = c.args.plan.now in
     let m = c.args.guest.now.machine in
-    let none : is_called (called_at plan m.pc) ≡ false = ap (λ a. is_called (called_at plan a)) (sym c.pc.ensures) ∙ (sym c.is_called.ensures ∙ c.if-not-is_called.true) in
+    let none = none_given plan m.pc c.pc.result c.at-called.result c.pc.ensures c.at-called.ensures.routine c.at-called.ensures.block c.at-called.ensures.before c.at-called.ensures.after c.at-called.ensures.taken (sym c.is_nothing.ensures ∙ c.if-is_nothing.true) in
     takes_as stands _ _ c.args.local.now c.args.local.now (sym (none_called plan m (completion_of c.step.result c.step.new.self.machine) none)) (takes_none stands c.args.local.now)
 
-pub returns-then-not-is_called-clause-few : goal.returns-then-not-is_called-clause-few
-returns-then-not-is_called-clause-few g c completion =
+pub returns-then-is_nothing-clause-few : goal.returns-then-is_nothing-clause-few
+returns-then-is_nothing-clause-few g c completion =
     let plan = c.args.plan.now in
     let m = c.args.guest.now.machine in
-    let none : is_called (called_at plan m.pc) ≡ false = ap (λ a. is_called (called_at plan a)) (sym c.pc.ensures) ∙ (sym c.is_called.ensures ∙ c.if-not-is_called.true) in
+    let none = none_given plan m.pc c.pc.result c.at-called.result c.pc.ensures c.at-called.ensures.routine c.at-called.ensures.block c.at-called.ensures.before c.at-called.ensures.after c.at-called.ensures.taken (sym c.is_nothing.ensures ∙ c.if-is_nothing.true) in
     omega (arith, ap length (none_called plan m completion none))
 
 pub returns-in-None-clause-events : goal.returns-in-None-clause-events
@@ -36,4 +36,11 @@ returns-in-None-clause-few g c completion =
 
 pub returns-in-Some-clause-few : goal.returns-in-Some-clause-few
 returns-in-Some-clause-few g c completion =
-    few_events c.args.plan.now c.args.guest.now.machine completion c.in-Some.operands (sym c.operands_at.ensures ∙ c.in-Some.is) c.called_step.ensures.few
+    few_events c.args.plan.now c.args.guest.now.machine completion c.in-Some.operands (sym c.operands_at.ensures ∙ c.in-Some.is)
+    (subst (λ (a : ℕ). FewCalls (called_at c.args.plan.now a)) (c.pc.ensures ∙ sym (pc_is c.args.guest.now.machine c.in-Some.operands (sym c.operands_at.ensures ∙ c.in-Some.is))) c.at-called.ensures.few)
+
+pub called_step-requires-clause-calls : goal.called_step-requires-clause-calls
+called_step-requires-clause-calls g c κs within =
+    calls_given c.args.plan.now c.pc.result c.in-Some.operands.pc c.at-called.result
+    (c.pc.ensures ∙ sym (pc_is c.args.guest.now.machine c.in-Some.operands (sym c.operands_at.ensures ∙ c.in-Some.is)))
+    c.at-called.ensures.routine c.at-called.ensures.block c.at-called.ensures.before c.at-called.ensures.after c.at-called.ensures.taken
