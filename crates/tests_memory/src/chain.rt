@@ -1,4 +1,6 @@
 // A hundred freezes and forks, beside a plain list of bytes.
+ghost use Rattle.std.specs.Prelude.{◌<◌};
+
 use crate::space::small;
 use crate::writes::put;
 use guest_mem::{FrozenSpace, Space};
@@ -66,6 +68,22 @@ fn stand_of(
     })
 }
 
+// Two changes and a freeze, and whether the space holds its bytes behind them.
+fn turn(
+    alloc: Global,
+    space: &mut Space,
+    bytes: &mut [u8; 6],
+    stands: &mut Vec<Stand>,
+    k: usize,
+) -> Result<bool, AllocError>
+    requires { k < 100 }
+{
+    let is_changed = change(space, bytes, 2 * k) && change(space, bytes, 2 * k + 1);
+    let stand = stand_of(alloc, space, bytes, k)?;
+    stands.push(stand)?;
+    Ok(is_changed && holds_now(space, bytes))
+}
+
 #[test]
 fn a_hundred_freezes_and_forks(rt: HostRuntime) -> Result<(), Fail> {
     let alloc = rt.alloc();
@@ -75,12 +93,9 @@ fn a_hundred_freezes_and_forks(rt: HostRuntime) -> Result<(), Fail> {
     let mut stands = Vec::new(alloc);
     for k in 0..100 {
         assert!(rt;
-            change(&mut space, &mut bytes, 2 * k) && change(&mut space, &mut bytes, 2 * k + 1),
-            "change {k}"
+            turn(alloc, &mut space, &mut bytes, &mut stands, k)?,
+            "turn {k}"
         );
-        let stand = stand_of(alloc, &mut space, &bytes, k)?;
-        assert!(rt; holds_now(&space, &bytes), "space {k}");
-        stands.push(stand)?;
     }
     for (k, stand) in stands.iter().enumerate() {
         assert!(rt; holds(stand), "state {k}");

@@ -143,17 +143,17 @@ fn make(space: &mut Space, change: Change) -> bool
 }
 
 // Whether a fork of the base is found the same as what went on from it, as the row says.
-fn compares(
+fn is_found(
+    alloc: Global,
     base: &FrozenSpace,
-    on: &mut Space,
-    fork: &mut Space,
+    space: &mut Space,
     row: &Row,
 ) -> Result<bool, AllocError>
-    requires on { on.old.origin ≡ all_bytes base.now.space }
-    requires fork { fork.old.origin ≡ all_bytes base.now.space }
+    requires { space.old.origin ≡ all_bytes base.now.space }
 {
-    let is_made = make(on, row.end) && make(fork, row.fork);
-    let end = on.freeze()?;
+    let mut fork = Space::fork(alloc, base, 2)?;
+    let is_made = make(space, row.end) && make(&mut fork, row.fork);
+    let end = space.freeze()?;
     Ok(is_made && fork.same_as(base, &end) == row.is_same)
 }
 
@@ -162,11 +162,9 @@ fn holds(alloc: Global, row: &Row) -> Result<bool, AllocError> {
     let mut space = small(alloc)?;
     let is_mapped = space.map(0x1000, 3, 0x22) == 0x40000000;
     let base = space.freeze()?;
-    let mut fork = Space::fork(alloc, &base, 2)?;
-    let of_space = compares(&base, &mut space, &mut fork, row)?;
-    let mut fork = Space::fork(alloc, &base, 2)?;
+    let of_space = is_found(alloc, &base, &mut space, row)?;
     let mut other = Space::fork(alloc, &base, 2)?;
-    let of_fork = compares(&base, &mut other, &mut fork, row)?;
+    let of_fork = is_found(alloc, &base, &mut other, row)?;
     Ok(is_mapped && of_space && of_fork)
 }
 
