@@ -7,12 +7,11 @@ mod spaces;
 
 ghost use Rattle.std.specs.Prelude.{◌≡◌, ◌<◌, ◌≤◌, ◌^◌};
 
+use crate::spaces::{hold_empty, hold_forks, measure_guests, measure_spaces};
 use cow_pages::{Pages, Shared};
 use std::alloc::{AllocError, Global};
 use std::io;
 use std::time::{CpuClock, Duration};
-
-use crate::spaces::{hold_empty, hold_forks, measure_guests, measure_spaces};
 
 /// How many pages are written before the times are taken, half of them low and half where maps stand.
 const PAGES: u32 = 16_000;

@@ -1,12 +1,11 @@
 // Freezes and forks of a guest's memory, and snapshots of a guest.
+use crate::told;
 use guest_mem::{FrozenSpace, Space};
 use rv_machine::{Guest, Snapshot};
 use sample_files::{EXIT_7, guest_of, one_segment};
 use std::alloc::{AllocError, Global};
 use std::io;
 use std::time::{CpuClock, Duration};
-
-use crate::told;
 
 /// How many pages are mapped and written before anything is measured, and where they start.
 const PAGES: u32 = 16_000;
@@ -42,12 +41,7 @@ fn written_guest(alloc: Global) -> Result<Guest, AllocError> {
 }
 
 /// The time of freezes alone, before each of which a few pages are written.
-fn freezes<R: CpuClock>(
-    rt: &R,
-    space: &mut Space,
-    times: u32,
-    apart: u32,
-) -> io::Result<Duration> {
+fn freezes<R: CpuClock>(rt: &R, space: &mut Space, times: u32, apart: u32) -> io::Result<Duration> {
     let mut spent = Duration::ZERO;
     for i in 0..times {
         write_pages(space, i, FEW, apart);
@@ -106,7 +100,13 @@ pub fn measure_spaces<R: Eprint + CpuClock + AllocGlobal>(
     let frozen = space.freeze()?;
     for apart in [1, 1607] {
         let spent = freezes(rt, space, times, apart)?;
-        told(rt, is_told, "freeze of a memory, ten pages written before it", times, spent)?;
+        told(
+            rt,
+            is_told,
+            "freeze of a memory, ten pages written before it",
+            times,
+            spent,
+        )?;
     }
     for written in [0, FEW] {
         let from = rt.thread_cpu_time()?;
@@ -127,13 +127,25 @@ pub fn measure_guests<R: Eprint + CpuClock + AllocGlobal>(
     let snapshot = guest.snapshot()?;
     for apart in [1, 1607] {
         let spent = snapshots(rt, &mut guest, times, apart)?;
-        told(rt, is_told, "snapshot of a guest, ten pages written before it", times, spent)?;
+        told(
+            rt,
+            is_told,
+            "snapshot of a guest, ten pages written before it",
+            times,
+            spent,
+        )?;
     }
     for written in [0, FEW] {
         let from = rt.thread_cpu_time()?;
         guests(rt.alloc(), &snapshot, times, written)?;
         let spent = rt.thread_cpu_time()?.saturating_sub(from);
-        told(rt, is_told, "guest from a snapshot and its end", times, spent)?;
+        told(
+            rt,
+            is_told,
+            "guest from a snapshot and its end",
+            times,
+            spent,
+        )?;
     }
     Ok(())
 }
