@@ -1,5 +1,5 @@
 -- A byte takes at most one frame.
-use Rattle.std.proofs.Common.{◌≤◌, inr, arith}
+use Rattle.std.proofs.Common.{inr, arith}
 use Rattle.guest_mem.proofs.Ranges.{frames_for_all-one}
 use Rattle.guest_mem.proofs.Taken.{few_frames_of}
 use Rattle.pages_bench.proofs.spaces.put.Goals as goal
