@@ -1,8 +1,13 @@
-//! Times of the calls of `cow_pages`. Without an argument each is made a few times, and nothing is printed.
+//! Times of the calls of `cow_pages` (`measure`), and of freezes and forks of whole memories and guests (`spaces`).
+//! `hold forks N`, `hold written N` and `hold empty N` make N memories and hold them, so that their own memory can be
+//! measured from outside. Without an argument each is made a few times, and nothing is printed.
 #![tactic(auto)]
+
+mod spaces;
 
 ghost use Rattle.std.specs.Prelude.{◌≡◌, ◌<◌, ◌≤◌, ◌^◌};
 
+use crate::spaces::{hold_empty, hold_forks, measure_guests, measure_spaces};
 use cow_pages::{Pages, Shared};
 use std::alloc::{AllocError, Global};
 use std::io;
@@ -98,8 +103,8 @@ fn compared(alloc: Global, pages: &mut Pages, i: u32) -> Result<bool, AllocError
     Ok(fork.same_as(&base, &end))
 }
 
-/// Prints what was done, how often, and the processor time that it took.
-fn told<R: Eprint + CpuClock>(
+/// Prints what was done, how often, and the processor time since `from`.
+fn told_since<R: Eprint + CpuClock>(
     rt: &R,
     is_told: bool,
     what: &str,
@@ -125,18 +130,18 @@ fn run<R: Eprint + CpuClock + AllocGlobal>(
     write_pages(&mut pages, 0, PAGES, 1);
     let from = rt.thread_cpu_time()?;
     let sum = reads(&pages, many);
-    told(rt, is_told, "read of a frame", many, from, sum)?;
+    told_since(rt, is_told, "read of a frame", many, from, sum)?;
     let first = pages.freeze()?;
     let from = rt.thread_cpu_time()?;
     let sum = reads(&pages, many);
-    told(rt, is_told, "read of a shared page", many, from, sum)?;
+    told_since(rt, is_told, "read of a shared page", many, from, sum)?;
     let from = rt.thread_cpu_time()?;
     writes(&mut pages, many);
-    told(rt, is_told, "write", many, from, 0)?;
+    told_since(rt, is_told, "write", many, from, 0)?;
     drop(pages.freeze()?);
     let from = rt.thread_cpu_time()?;
     let sum = freezes(&mut pages, times, 1)?;
-    told(
+    told_since(
         rt,
         is_told,
         "ten neighbouring pages written and a freeze",
@@ -146,7 +151,7 @@ fn run<R: Eprint + CpuClock + AllocGlobal>(
     )?;
     let from = rt.thread_cpu_time()?;
     let sum = freezes(&mut pages, times, 1607)?;
-    told(
+    told_since(
         rt,
         is_told,
         "ten pages far apart written and a freeze",
@@ -156,13 +161,13 @@ fn run<R: Eprint + CpuClock + AllocGlobal>(
     )?;
     let from = rt.thread_cpu_time()?;
     let sum = forks(alloc, &first, times, 0)?;
-    told(rt, is_told, "fork", times, from, sum)?;
+    told_since(rt, is_told, "fork", times, from, sum)?;
     let from = rt.thread_cpu_time()?;
     let sum = forks(alloc, &first, times, 10)?;
-    told(rt, is_told, "fork that writes ten pages", times, from, sum)?;
+    told_since(rt, is_told, "fork that writes ten pages", times, from, sum)?;
     let from = rt.thread_cpu_time()?;
     let sum = compares(alloc, &mut pages, times)?;
-    told(
+    told_since(
         rt,
         is_told,
         "two freezes, a fork, ten pages written on both sides, and same_as",
@@ -173,10 +178,48 @@ fn run<R: Eprint + CpuClock + AllocGlobal>(
     Ok(())
 }
 
+/// Prints what was done, how often, and the mean of the processor time that it took.
+fn told<R: Eprint>(
+    rt: &R,
+    is_told: bool,
+    what: &str,
+    times: u32,
+    spent: Duration,
+) -> io::Result<()> {
+    if is_told {
+        let mean = spent.as_nanos() / u128::from(times.max(1));
+        eprintln!(rt; "{what}: {times} times, {mean} ns each")?;
+    }
+    Ok(())
+}
+
+/// Makes memories and holds them until all are made.
+fn hold(alloc: Global, kind: &str, count: u32) -> Result<(), AllocError> {
+    match kind {
+        "forks" => hold_forks(alloc, count, 0),
+        "written" => hold_forks(alloc, count, 10),
+        _ => hold_empty(alloc, count),
+    }
+}
+
 fn main(rt: HostRuntime) -> io::Result<()> {
-    if std::env::args(&rt)?.len() > 1 {
-        run(&rt, true, 10_000, 100_000_000)
-    } else {
-        run(&rt, false, 2, 100)
+    let mut words = std::env::args(&rt)?.skip(1);
+    let (first, second, third) = (words.next(), words.next(), words.next());
+    match first.as_deref() {
+        Some("spaces") => {
+            measure_spaces(&rt, true, 10_000)?;
+            measure_guests(&rt, true, 10_000)
+        }
+        Some("hold") => {
+            let kind = second.as_deref().unwrap_or("empty");
+            let count = third.as_deref().unwrap_or("").parse().unwrap_or(0);
+            Ok(hold(rt.alloc(), kind, count)?)
+        }
+        Some(_) => run(&rt, true, 10_000, 100_000_000),
+        None => {
+            run(&rt, false, 2, 100)?;
+            measure_spaces(&rt, false, 2)?;
+            measure_guests(&rt, false, 2)
+        }
     }
 }

@@ -2,4 +2,16 @@
 #![tactic(auto)]
 
 #[cfg(test)]
+mod chain;
+#[cfg(test)]
+mod compare;
+#[cfg(test)]
+mod forks;
+#[cfg(test)]
+mod full;
+#[cfg(test)]
 mod space;
+#[cfg(test)]
+mod threads;
+#[cfg(test)]
+mod writes;

@@ -22,7 +22,7 @@ const DATA: Area = Area {
     execute: false,
 };
 
-fn small(alloc: Global) -> Result<Space, AllocError>
+pub(crate) fn small(alloc: Global) -> Result<Space, AllocError>
     ensures { IfOk result (λ space. space.frames.count ≡ 16384) }
 {
     let mut space = Space::empty(alloc, 0x20000, 16_384)?;
