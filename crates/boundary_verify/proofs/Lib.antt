@@ -1,1 +1,4 @@
 pub mod Matches
+pub mod Along
+pub mod Cuts
+pub mod Ends

@@ -37,7 +37,7 @@ no_repeat p t c n last end ended here before same =
     cc (goes_on.1, stops)
 
 -- the records up to e begin with those of the first k steps
-records_split : (p : Position) (b e k : ℕ) → k ≤ e - b → (script_of p b e).entries ≡ entries_of k (position_at b p) ++ along step_of entry_at (e - b - k) (run_of k (position_at b p))
+pub records_split : (p : Position) (b e k : ℕ) → k ≤ e - b → (script_of p b e).entries ≡ entries_of k (position_at b p) ++ along step_of entry_at (e - b - k) (run_of k (position_at b p))
 records_split p b e k within =
     let sum : e - b ≡ k + (e - b - k) = omega arith in
     ap (λ n. entries_of n (position_at b p)) sum ∙ along-add step_of entry_at k (e - b - k) (Running (position_at b p))

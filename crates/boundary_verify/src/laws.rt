@@ -1,9 +1,13 @@
-//! Laws of paths and matches. None of these functions does anything: each carries a law.
-ghost use Rattle.std.specs.Prelude.{◌≡◌, ℕ, ◌+◌, ◌-◌, ◌≤◌, ◌<◌};
-ghost use Rattle.guest_model.specs.Play.{Spot, Script, play_of};
-ghost use Rattle.guest_model.specs.Runs.{Running, IsRunning};
-ghost use Rattle.guest_model.specs.Serial.{Position, End, EndsAt, run_of};
-ghost use Rattle.boundary_verify.specs.Path.{IsMatch, last_path, path_between};
+//! Laws of paths, of matches and of cuts. None of these functions does anything: each carries a law.
+ghost use Rattle.std.specs.Prelude.{◌≡◌, ℕ, ◌+◌, ◌-◌, ◌≤◌, ◌<◌, Bool, List, length};
+ghost use Rattle.std.specs.List.{flat_map, sum_by};
+ghost use Rattle.guest_model.specs.Play.{Spot, Script, play_of, spot_of, written_of};
+ghost use Rattle.guest_model.specs.Runs.{Ended, Running, IsRunning};
+ghost use Rattle.guest_model.specs.Serial.{Position, End, EndsAt, TraceItem, entries_of, position_at, run_of, trace_of};
+ghost use Rattle.boundary_verify.specs.Cuts.{AreBetween, AreCuts, CutLimits, writes_of};
+ghost use Rattle.boundary_verify.specs.Lines.{AreLines, AreLinesOfPaths, Line};
+ghost use Rattle.boundary_verify.specs.Path.{IsMatch, last_path, path_between, script_of};
+ghost use Rattle.boundary_verify.specs.Pieces.{ArePieces};
 
 /// A play that comes back to a machine and record position, in one or more steps, never ends.
 pub fn recurrence()
@@ -24,4 +28,56 @@ pub fn boundaries_are_exact()
 pub fn matches_within()
     ensures { (p : Position) (b c s : ℕ) → IsRunning (run_of c p) → b < c → IsMatch (path_between p b c) s
         → s ≤ c - b }
+{}
+
+/// A run that has ended after some number of steps ended by one of them, and by no other.
+pub fn ending_step()
+    ensures found { (p : Position) (n : ℕ) (last : Position) (end : End) → run_of n p ≡ Ended last end
+        → (t : ℕ) × (t < n) × EndsAt p t end }
+    ensures one { (p : Position) (t u : ℕ) (end other : End) → EndsAt p t end → EndsAt p u other
+        → (t ≡ u) × (end ≡ other) }
+{}
+
+/// The path between two positions, and that to the end of the run, depend on nothing of the run but the position at
+/// which they start.
+pub fn paths_by_their_start()
+    ensures between { (p : Position) (b c : ℕ) → IsRunning (run_of c p) → b ≤ c
+        → path_between p b c ≡ path_between (position_at b p) 0 (c - b) }
+    ensures last { (p : Position) (b t : ℕ) → b ≤ t → last_path p b t ≡ last_path (position_at b p) 0 (t - b) }
+{}
+
+/// The cuts of a run are positions above 0 in order, up to its last one, and no other list is that of its cuts.
+pub fn one_list_of_cuts()
+    ensures order { (limits : CutLimits) (answers : List Bool) (p : Position) (t : ℕ) (cuts : List ℕ)
+        → AreCuts limits answers p t cuts → AreBetween t 0 cuts }
+    ensures one { (limits : CutLimits) (answers : List Bool) (p : Position) (t : ℕ) (cuts others : List ℕ)
+        → AreCuts limits answers p t cuts → AreCuts limits answers p t others → cuts ≡ others }
+{}
+
+/// In a run that ends, the pieces of the paths between neighbouring cuts and of the last path, joined, are the trace,
+/// wherever the run is cut.
+pub fn pieces_join()
+    ensures { (p : Position) (t : ℕ) (end : End) (cuts : List ℕ) (pieces : List (List TraceItem)) → EndsAt p t end
+        → AreBetween t 0 cuts → ArePieces p t 0 cuts pieces → flat_map (λ x. x) pieces ≡ trace_of (t + 1) p }
+{}
+
+/// In a run that ends, what the plays of the paths count up to their matches is what the lines of the run say, of which
+/// there is one list. Their steps add up to the length of the trace, and their calls to the calls of the run.
+pub fn lines_of_paths()
+    ensures same { (p : Position) (t : ℕ) (end : End) (cuts : List ℕ) (lines : List Line) → EndsAt p t end
+        → AreBetween t 0 cuts → AreLinesOfPaths p t 0 cuts lines → AreLines p t 0 cuts lines }
+    ensures one { (p : Position) (t : ℕ) (cuts : List ℕ) (lines others : List Line) → AreLines p t 0 cuts lines
+        → AreLines p t 0 cuts others → lines ≡ others }
+    ensures steps { (p : Position) (t : ℕ) (end : End) (cuts : List ℕ) (lines : List Line) → EndsAt p t end
+        → AreBetween t 0 cuts → AreLines p t 0 cuts lines
+        → sum_by (λ (l : Line). l.steps) lines ≡ length (trace_of (t + 1) p) }
+    ensures calls { (p : Position) (t : ℕ) (end : End) (cuts : List ℕ) (lines : List Line) → EndsAt p t end
+        → AreBetween t 0 cuts → AreLines p t 0 cuts lines
+        → sum_by (λ (l : Line). l.calls) lines ≡ length (entries_of (t + 1) p) }
+{}
+
+/// The play between two positions writes what the run writes there.
+pub fn paths_write_the_same()
+    ensures { (p : Position) (b c k : ℕ) → IsRunning (run_of (b + k) p) → b + k ≤ c
+        → written_of (script_of p b c) k (spot_of (position_at b p)) ≡ writes_of k (position_at b p) }
 {}
