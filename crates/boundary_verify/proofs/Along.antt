@@ -28,7 +28,7 @@ map-along {S} {E} g step f (suc n) x = map-append g (along step f n x) (here f (
     each (Ended s e) = refl
 
 -- f says of a step that goes on what g says of the play's step there, which takes the record that the run leaves
-pub AreAlike : {A : Type 0} → Script → (Position → List A) → (Spot → List A) → Type 0
+abbrev pub AreAlike : {A : Type 0} → Script → (Position → List A) → (Spot → List A) → Type 0
 AreAlike script f g =
     (q r : Position) → step_of q ≡ Running r → play_step script (spot_of q) ≡ Running (spot_of r)
     → ((entry : CallRecord) → entry_at q ≡ entry ∷ [] → entry_for script q.calls ≡ Some entry) → g (spot_of q) ≡ f q
@@ -72,11 +72,10 @@ spots_alike script q r one other entry = ap landed other ∙ sym (ap (λ (x : Ru
 
 -- the ranges that are written
 pub writes_alike : (script : Script) → AreAlike script writes_at (written_at script)
-unfolding writes_at written_at
+unfolding writes_at written_at step_of entry_at
 writes_alike script q r one other found = by_effect (effect_of q.machine) refl
   where
     by_call : effect_of q.machine ≡ Call → (called : Called) → call_of q.machine q.world ≡ called → written_by_entry (entry_for script q.calls) ≡ stored_ranges (entry_at q)
-    unfolding step_of entry_at
     by_call e (Went next later entry sent) h =
         let has : entry_at q ≡ entry ∷ [] = rw (e, h) refl in
         ap written_by_entry (found entry has) ∙ sym (append-nil (map range_of entry.stored)) ∙ sym (ap stored_ranges has)

@@ -42,7 +42,7 @@ ends_once p t u end other h k =
     let one : t ≤ u = ends_no_sooner p t u end other h k in
     let two : u ≤ t = ends_no_sooner p u t other end k h in
     let same : t ≡ u = omega arith in
-    let over : run_of (u + 1) p ≡ Ended (position_at t p) end = rw same at h.over in
+    let over : run_of (u + 1) p ≡ Ended (position_at u p) end = rw same at h.over in
     (same, cc (over, k.over))
 
 pub path_by_start : (p : Position) (b c : ℕ) → IsRunning (run_of c p) → b ≤ c → path_between p b c ≡ path_between (position_at b p) 0 (c - b)

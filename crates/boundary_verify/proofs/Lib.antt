@@ -2,3 +2,5 @@ pub mod Matches
 pub mod Along
 pub mod Cuts
 pub mod Ends
+pub mod Joins
+pub mod Lines
