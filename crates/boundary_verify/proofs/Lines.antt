@@ -20,7 +20,7 @@ use Rattle.guest_model.proofs.Onward.{stops}
 use Rattle.guest_model.proofs.Runs.{along-next, along-zero, last_step, running_earlier}
 use Rattle.boundary_verify.specs.Cuts.{AreBetween}
 use Rattle.boundary_verify.specs.Lines.{AreLines, AreLinesOfPaths, IsLastLine, IsLineBetween, IsLineOf, Line, spots_between}
-use Rattle.boundary_verify.specs.Path.{IsMatch, last_path, path_after, path_between, path_trace, script_of}
+use Rattle.boundary_verify.specs.Path.{IsMatch, Path, last_path, path_after, path_between, path_trace, script_of}
 use Rattle.boundary_verify.proofs.Along.{along-one, goes_to, map-along, path_along, position_zero, spots_alike}
 use Rattle.boundary_verify.proofs.Cuts.{within_last}
 use Rattle.boundary_verify.proofs.Joins.{match_here, match_once, trace_between, trace_from_start, trace_last, trace_split}
@@ -77,6 +77,7 @@ line_between p t end b c line h before within is = record {
       (subst (λ n. AreHits (spot_of (position_at c p)) (reached (play_step (script_of p b c)) n (Running (spot_of (position_at b p)))) line.hits) size is.hits);
 }
   where
+    path : Path
     path = path_between p b c
 
     there : IsRunning (run_of c p)

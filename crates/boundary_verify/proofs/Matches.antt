@@ -90,7 +90,7 @@ none_left p b t end h before = rw (place, records) (slice_get_none (entries_of (
     place = let count : (position_at t p).calls ≡ (position_at b p).calls + length (entries_of (t - b) (position_at b p)) = calls_along (position_at b p) (position_at t p) (t - b) goes in omega arith
 
 -- a path to the end stands there after its last step
-at_end : (p : Position) (b t : ℕ) (end : End) → EndsAt p t end → b ≤ t → (halt : Halt) × (path_after (last_path p b t) (t + 1 - b) ≡ Ended (spot_of (position_at t p)) halt)
+pub at_end : (p : Position) (b t : ℕ) (end : End) → EndsAt p t end → b ≤ t → (halt : Halt) × (path_after (last_path p b t) (t + 1 - b) ≡ Ended (spot_of (position_at t p)) halt)
 at_end p b t end h before =
     let script = script_of p b (t + 1) in
     let sum : b + (t - b) ≡ t = omega arith in
