@@ -8,9 +8,9 @@ use Rattle.guest_model.specs.Call as calls
 use Rattle.guest_model.specs.Effect.{Effect, Next, Call, Fault, effect_of}
 use Rattle.guest_model.specs.Play.{Script, Spot, entry_for, machine_of, play_of, play_step, played_item, range_of, spot_of, written_at, written_by_entry, written_in_play}
 use Rattle.guest_model.specs.Runs.{RunState, Running, Ended, IsRunning, after, along, here, landed, state_of}
-use Rattle.guest_model.specs.Serial.{Position, End, completed, entries_of, entry_at, entry_by, item_at, item_of, position_at, run_of, step_by, step_of}
+use Rattle.guest_model.specs.Serial.{Position, End, completed, entries_of, entry_at, item_at, item_of, position_at, run_of, step_by, step_of}
 use Rattle.guest_model.proofs.Follows.{calls_along, follows, follows_one, slice_get_next}
-use Rattle.guest_model.proofs.Runs.{after-zero, along-next, along-suc, along-zero, last_step, after-next, running_earlier, running_same}
+use Rattle.guest_model.proofs.Runs.{after-zero, along-next, along-zero, last_step, running_earlier}
 use Rattle.boundary_verify.specs.Cuts.{stored_ranges, writes_at, writes_by}
 use Rattle.boundary_verify.specs.Path.{script_of}
 use Rattle.boundary_verify.proofs.Matches.{at_position, records_split, run_from}

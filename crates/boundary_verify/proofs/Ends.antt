@@ -1,9 +1,8 @@
 -- The step that ends a run, and paths by where they start.
 use Rattle.std.proofs.Common.{◌≡◌, ℕ, zero, suc, ◌+◌, ◌-◌, ◌≤◌, ◌<◌, ◌⊎◌, inl, inr, refl, sym, ap, ◌∙◌, arith, add-one}
 use Rattle.std.proofs.lemmas.Bool.{cases_lt}
-use Rattle.guest_model.specs.Play.{spot_of}
 use Rattle.guest_model.specs.Runs.{RunState, Running, Ended, IsRunning, state_of}
-use Rattle.guest_model.specs.Serial.{Position, End, EndsAt, entries_of, position_at, run_of, step_of}
+use Rattle.guest_model.specs.Serial.{Position, End, EndsAt, position_at, run_of, step_of}
 use Rattle.guest_model.proofs.Onward.{stops}
 use Rattle.guest_model.proofs.Runs.{after-next, after-zero, over_later, running_earlier}
 use Rattle.boundary_verify.specs.Path.{last_path, path_between}

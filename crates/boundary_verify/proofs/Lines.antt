@@ -8,9 +8,9 @@ use Rattle.rv_isa.specs.Decoded.{decoded}
 use Rattle.rv_isa.specs.Table.{Fields}
 use Rattle.guest_model.specs.Effect.{Effect, Next, Call, Fault, effect_of, effect_of_instruction, effect_of_word}
 use Rattle.guest_model.specs.Machine.{Machine, instruction_at}
-use Rattle.guest_model.specs.Play.{Halt, Script, Spot, play_step, spot_of}
+use Rattle.guest_model.specs.Play.{Halt, Spot, play_step, spot_of}
 use Rattle.guest_model.specs.Runs.{RunState, Running, IsRunning, landed, reached, state_of}
-use Rattle.guest_model.specs.Serial.{Position, End, EndsAt, TraceItem, completed, entries_of, entry_at, item_at, item_of, item_with, position_at, run_of, step_by, step_of, trace_of}
+use Rattle.guest_model.specs.Serial.{Position, End, EndsAt, completed, entries_of, entry_at, item_at, item_of, item_with, position_at, run_of, step_by, step_of, trace_of}
 use Rattle.guest_model.specs.Space.{read_number}
 use Rattle.guest_model.specs.Tests.{AreHits}
 use Rattle.guest_model.specs.declared.Access.TheVariants.{Execute}

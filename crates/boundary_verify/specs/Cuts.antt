@@ -1,5 +1,5 @@
 -- The cuts of a run: the positions at which one slice ends and the next one starts.
-use Rattle.std.specs.Prelude.{◌≡◌, ℕ, ◌+◌, ◌-◌, ◌/◌, ◌%◌, ◌<◌, ◌≤◌, ◌==◌, nat_lt, nat_le, Bool, true, false, ◌&&◌, ◌||◌, List, [], ◌∷◌, map, slice_get, unwrap_or}
+use Rattle.std.specs.Prelude.{◌≡◌, ℕ, ◌+◌, ◌-◌, ◌/◌, ◌%◌, ◌<◌, ◌≤◌, ◌==◌, nat_lt, nat_le, Bool, true, false, ◌&&◌, ◌||◌, List, [], ◌∷◌, map}
 use Rattle.std.specs.List.{flat_map}
 use Rattle.call_record.specs.Record.{CallRecord, size_of_records}
 use Rattle.guest_model.specs.Effect.{Effect, Next, Call, Fault, effect_of}
@@ -40,13 +40,9 @@ writes_at p = writes_by p (effect_of p.machine)
 abbrev pub writes_of : ℕ → Position → List Range
 writes_of n p = along step_of writes_at n (Running p)
 
--- the pacer's k-th answer, counted from 1; behind its last one each is false
-abbrev pub answer_at : List Bool → ℕ → Bool
-answer_at answers k = unwrap_or (slice_get answers (k - 1)) false
-
--- the pacer tells a cut at position t: t is a multiple of the period, above 0, and its answer there is true
-unfoldable pub is_paced : CutLimits → List Bool → ℕ → Bool
-is_paced limits answers t = nat_lt 0 t && (t % limits.poll == 0 && answer_at answers (t / limits.poll))
+-- the pacer's answers by their numbers, the first with number 1: it is asked once at each multiple of the period above 0, and a cut is where it answers true
+unfoldable pub is_paced : CutLimits → (ℕ → Bool) → ℕ → Bool
+is_paced limits answers t = nat_lt 0 t && (t % limits.poll == 0 && answers (t / limits.poll))
 
 -- n steps behind the last cut, at which the run stood at `last`: so many calls went on since, or their records hold so many bytes, or the steps wrote
 -- more than so many different pages
@@ -56,19 +52,19 @@ is_full limits last n =
     || (nat_le limits.bytes (size_of_records (entries_of n last)) || nat_lt limits.pages (pages_among (writes_of n last)))
 
 -- position t of the run from p is a cut, where b is the last cut before it, or 0
-abbrev pub is_cut : CutLimits → List Bool → Position → ℕ → ℕ → Bool
+abbrev pub is_cut : CutLimits → (ℕ → Bool) → Position → ℕ → ℕ → Bool
 is_cut limits answers p b t = is_paced limits answers t || is_full limits (position_at b p) (t - b)
 
 -- no position between b and c is one
-abbrev pub HasNoCut : CutLimits → List Bool → Position → ℕ → ℕ → Type 0
+abbrev pub HasNoCut : CutLimits → (ℕ → Bool) → Position → ℕ → ℕ → Type 0
 HasNoCut limits answers p b c = (s : ℕ) → b < s → s < c → is_cut limits answers p b s ≡ false
 
 -- these are all cuts behind b, which is one or 0, in order, of the run from p whose last position is t
-abbrev pub AreCutsAfter : CutLimits → List Bool → Position → ℕ → ℕ → List ℕ → Type 0
+abbrev pub AreCutsAfter : CutLimits → (ℕ → Bool) → Position → ℕ → ℕ → List ℕ → Type 0
 AreCutsAfter limits answers p t b [] = (b ≤ t) × HasNoCut limits answers p b (t + 1)
 AreCutsAfter limits answers p t b (c ∷ cuts) = (b < c) × HasNoCut limits answers p b c × (is_cut limits answers p b c ≡ true) × AreCutsAfter limits answers p t c cuts
 
-abbrev pub AreCuts : CutLimits → List Bool → Position → ℕ → List ℕ → Type 0
+abbrev pub AreCuts : CutLimits → (ℕ → Bool) → Position → ℕ → List ℕ → Type 0
 AreCuts limits answers p t cuts = AreCutsAfter limits answers p t 0 cuts
 
 -- these are some positions behind b, in order, none behind t

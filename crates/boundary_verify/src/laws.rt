@@ -46,11 +46,13 @@ pub fn paths_by_their_start()
     ensures last { (p : Position) (b t : ℕ) → b ≤ t → last_path p b t ≡ last_path (position_at b p) 0 (t - b) }
 {}
 
-/// The cuts of a run are positions above 0 in order, up to its last one, and no other list is that of its cuts.
+/// Each run has one list of cuts, of positions above 0 in order, up to its last one.
 pub fn one_list_of_cuts()
-    ensures order { (limits : CutLimits) (answers : List Bool) (p : Position) (t : ℕ) (cuts : List ℕ)
+    ensures found { (limits : CutLimits) (answers : ℕ → Bool) (p : Position) (t : ℕ)
+        → (cuts : List ℕ) × AreCuts limits answers p t cuts }
+    ensures order { (limits : CutLimits) (answers : ℕ → Bool) (p : Position) (t : ℕ) (cuts : List ℕ)
         → AreCuts limits answers p t cuts → AreBetween t 0 cuts }
-    ensures one { (limits : CutLimits) (answers : List Bool) (p : Position) (t : ℕ) (cuts others : List ℕ)
+    ensures one { (limits : CutLimits) (answers : ℕ → Bool) (p : Position) (t : ℕ) (cuts others : List ℕ)
         → AreCuts limits answers p t cuts → AreCuts limits answers p t others → cuts ≡ others }
 {}
 
