@@ -4,3 +4,4 @@ pub mod Cuts
 pub mod Ends
 pub mod Joins
 pub mod Lines
+pub mod Rules

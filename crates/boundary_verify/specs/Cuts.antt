@@ -1,5 +1,5 @@
 -- The cuts of a run: the positions at which one slice ends and the next one starts.
-use Rattle.std.specs.Prelude.{◌≡◌, ℕ, ◌+◌, ◌-◌, ◌/◌, ◌%◌, ◌<◌, ◌≤◌, ◌==◌, nat_lt, nat_le, Bool, true, false, ◌&&◌, ◌||◌, List, [], ◌∷◌, map}
+use Rattle.std.specs.Prelude.{◌≡◌, ℕ, zero, suc, ◌+◌, ◌-◌, ◌/◌, ◌%◌, ◌<◌, ◌≤◌, ◌==◌, nat_lt, nat_le, Bool, true, false, ◌&&◌, ◌||◌, List, [], ◌∷◌, map, if◌then◌else◌}
 use Rattle.std.specs.List.{flat_map}
 use Rattle.call_record.specs.Record.{CallRecord, size_of_records}
 use Rattle.guest_model.specs.Effect.{Effect, Next, Call, Fault, effect_of}
@@ -71,3 +71,18 @@ AreCuts limits answers p t cuts = AreCutsAfter limits answers p t 0 cuts
 abbrev pub AreBetween : ℕ → ℕ → List ℕ → Type 0
 AreBetween t b [] = b ≤ t
 AreBetween t b (c ∷ cuts) = (b < c) × AreBetween t c cuts
+
+-- the last of these cuts before s, or b
+abbrev pub last_before : ℕ → List ℕ → ℕ → ℕ
+last_before b [] s = b
+last_before b (c ∷ cuts) s = if nat_lt c s then last_before c cuts s else b
+
+-- how many of the pacer's first n answers are true
+unfoldable pub granted_among : (ℕ → Bool) → ℕ → ℕ
+granted_among answers zero = 0
+granted_among answers (suc n) = granted_among answers n + (if answers (n + 1) then 1 else 0)
+
+-- how many of these cuts behind b have no cause but the pacer
+unfoldable pub paced_alone : CutLimits → Position → ℕ → List ℕ → ℕ
+paced_alone limits p b [] = 0
+paced_alone limits p b (c ∷ cuts) = (if is_full limits (position_at b p) (c - b) then 0 else 1) + paced_alone limits p c cuts

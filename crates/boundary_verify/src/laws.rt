@@ -1,10 +1,10 @@
 //! Laws of paths, of matches and of cuts. None of these functions does anything: each carries a law.
-ghost use Rattle.std.specs.Prelude.{◌≡◌, ℕ, ◌+◌, ◌-◌, ◌≤◌, ◌<◌, Bool, List, length};
-ghost use Rattle.std.specs.List.{flat_map, sum_by};
+ghost use Rattle.std.specs.Prelude.{◌≡◌, ℕ, ◌+◌, ◌-◌, ◌/◌, ◌%◌, ◌==◌, ◌≤◌, ◌<◌, Bool, List, length};
+ghost use Rattle.std.specs.List.{count_by, flat_map, list_any, sum_by};
 ghost use Rattle.guest_model.specs.Play.{Spot, Script, play_of, spot_of, written_of};
 ghost use Rattle.guest_model.specs.Runs.{Ended, Running, IsRunning};
 ghost use Rattle.guest_model.specs.Serial.{Position, End, EndsAt, TraceItem, entries_of, position_at, run_of, trace_of};
-ghost use Rattle.boundary_verify.specs.Cuts.{AreBetween, AreCuts, CutLimits, writes_of};
+ghost use Rattle.boundary_verify.specs.Cuts.{AreBetween, AreCuts, CutLimits, granted_among, is_cut, last_before, paced_alone, writes_of};
 ghost use Rattle.boundary_verify.specs.Lines.{AreLines, AreLinesOfPaths, Line};
 ghost use Rattle.boundary_verify.specs.Path.{IsMatch, last_path, path_between, script_of};
 ghost use Rattle.boundary_verify.specs.Pieces.{ArePieces};
@@ -54,6 +54,24 @@ pub fn one_list_of_cuts()
         → AreCuts limits answers p t cuts → AreBetween t 0 cuts }
     ensures one { (limits : CutLimits) (answers : ℕ → Bool) (p : Position) (t : ℕ) (cuts others : List ℕ)
         → AreCuts limits answers p t cuts → AreCuts limits answers p t others → cuts ≡ others }
+{}
+
+/// Of the positions of a run above 0, up to its last one, those are cuts at which one of the four rules holds, which look
+/// back to the last earlier cut, or to position 0.
+pub fn cuts_by_rule()
+    ensures { (limits : CutLimits) (answers : ℕ → Bool) (p : Position) (t s : ℕ) (cuts : List ℕ)
+        → AreCuts limits answers p t cuts → 0 < s → s ≤ t
+        → list_any (λ c. c == s) cuts ≡ is_cut limits answers p (last_before 0 cuts s) s }
+{}
+
+/// A pacer that is asked at each multiple of its period up to the last position is the cause of no more cuts than it
+/// granted, and at no fewer multiples is there a cut.
+pub fn cuts_and_grants()
+    ensures alone { (limits : CutLimits) (answers : ℕ → Bool) (p : Position) (t : ℕ) (cuts : List ℕ) → 1 ≤ limits.poll
+        → AreCuts limits answers p t cuts → paced_alone limits p 0 cuts ≤ granted_among answers (t / limits.poll) }
+    ensures each { (limits : CutLimits) (answers : ℕ → Bool) (p : Position) (t : ℕ) (cuts : List ℕ) → 1 ≤ limits.poll
+        → AreCuts limits answers p t cuts
+        → granted_among answers (t / limits.poll) ≤ count_by (λ c. c % limits.poll == 0) cuts }
 {}
 
 /// In a run that ends, the pieces of the paths between neighbouring cuts and of the last path, joined, are the trace,
