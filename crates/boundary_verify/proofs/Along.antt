@@ -1,6 +1,6 @@
 -- What is said along a run and along a play of the run's records is the same, step by step.
 use Rattle.std.proofs.Common.{◌≡◌, ℕ, zero, suc, ◌+◌, ◌-◌, ◌≤◌, List, [], ◌∷◌, ◌++◌, refl, sym, ap, ◌∙◌, arith, add-one, append_assoc, length, map}
-use Rattle.std.specs.Prelude.{Some}
+use Rattle.std.specs.Prelude.{None, Some}
 use Rattle.std.proofs.lemmas.List.{append-nil, map-append}
 use Rattle.call_record.specs.Record.{CallRecord}
 use Rattle.guest_model.specs.Call.{Called, Went, Exits, call_of}
@@ -86,6 +86,15 @@ writes_alike script q r one other found = by_effect (effect_of q.machine) refl
     by_effect (Next next stored) e = rw e refl
     by_effect (Fault kind) e = rw e refl
     by_effect Call e = ap (written_in_play script (spot_of q)) e ∙ by_call e (call_of q.machine q.world) refl ∙ sym (ap (writes_by q) e)
+
+pub writes_at_end : (script : Script) (q : Position) → entry_at q ≡ [] → entry_for script q.calls ≡ None → written_at script (spot_of q) ≡ writes_at q
+unfolding writes_at written_at
+writes_at_end script q no_entry none = by_effect (effect_of q.machine) refl
+  where
+    by_effect : (e : Effect) → effect_of q.machine ≡ e → written_in_play script (spot_of q) (effect_of q.machine) ≡ writes_by q (effect_of q.machine)
+    by_effect (Next next stored) e = rw e refl
+    by_effect (Fault kind) e = rw e refl
+    by_effect Call e = ap (written_in_play script (spot_of q)) e ∙ ap written_by_entry none ∙ sym (ap stored_ranges no_entry) ∙ sym (ap (writes_by q) e)
 
 -- the positions of a run from its start
 pub position_zero : (p : Position) → position_at 0 p ≡ p

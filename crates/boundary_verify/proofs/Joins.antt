@@ -2,15 +2,15 @@
 use Rattle.std.proofs.Common.{◌≡◌, ℕ, ◌+◌, ◌-◌, ◌≤◌, ◌<◌, List, [], ◌∷◌, ◌++◌, refl, sym, ap, ◌∙◌, arith, le_of_lt}
 use Rattle.std.specs.List.{flat_map}
 use Rattle.std.proofs.lemmas.List.{append-nil}
-use Rattle.guest_model.specs.Play.{Script, machine_of, play_of, play_step, played_item, spot_of}
+use Rattle.guest_model.specs.Play.{Script, Spot, machine_of, play_of, play_step, played_item, spot_of, written_at, written_of}
 use Rattle.guest_model.specs.Runs.{Running, IsRunning, along}
 use Rattle.guest_model.specs.Serial.{Position, End, EndsAt, TraceItem, completed, item_at, item_of, position_at, run_of, step_of, trace_of}
 use Rattle.guest_model.proofs.Onward.{stops}
 use Rattle.guest_model.proofs.Runs.{along-add, along-next, running_earlier}
-use Rattle.boundary_verify.specs.Cuts.{AreBetween}
+use Rattle.boundary_verify.specs.Cuts.{AreBetween, writes_at, writes_of}
 use Rattle.boundary_verify.specs.Path.{IsMatch, Path, last_path, path_between, path_trace, script_of}
 use Rattle.boundary_verify.specs.Pieces.{ArePieces, IsPiece}
-use Rattle.boundary_verify.proofs.Along.{goes_to, items_alike, path_along, position_zero}
+use Rattle.boundary_verify.proofs.Along.{AreAlike, goes_to, items_alike, path_along, position_zero, writes_alike, writes_at_end}
 use Rattle.boundary_verify.proofs.Cuts.{within_last}
 use Rattle.boundary_verify.proofs.Matches.{last_step_of_run, match_between, match_last, none_left, path_follows}
 
@@ -29,12 +29,14 @@ trace_between p b c there before =
     let sum : b + (c - b) ≡ c = omega arith in
     path_along item_at (played_item (script_of p b c)) p b c (c - b) (items_alike (script_of p b c)) (rw sum there) (omega arith)
 
-pub trace_last : (p : Position) (b t : ℕ) (end : End) → EndsAt p t end → b ≤ t → path_trace (last_path p b t) (t + 1 - b) ≡ trace_of (t + 1 - b) (position_at b p)
-trace_last p b t end h before =
-    ap (λ n. along (play_step script) (played_item script) n (Running (spot_of (position_at b p)))) size
-    ∙ along-next (play_step script) (played_item script) (t - b) (Running (spot_of (position_at b p))) (spot_of (position_at t p)) there
-    ∙ rw (front, last) (sym (along-next step_of item_at (t - b) (Running (position_at b p)) (position_at t p) (goes_to p b t h.position before)))
-    ∙ sym (ap (λ n. trace_of n (position_at b p)) size)
+-- what is said along the path to the end of the run, where f and g say the same of the last step too
+pub last_along : {A : Type 0} (f : Position → List A) (g : Spot → List A) (p : Position) (b t : ℕ) (end : End) → EndsAt p t end → b ≤ t → AreAlike (script_of p b (t + 1)) f g → g (spot_of (position_at t p)) ≡ f (position_at t p)
+    → along (play_step (script_of p b (t + 1))) g (t + 1 - b) (Running (spot_of (position_at b p))) ≡ along step_of f (t + 1 - b) (Running (position_at b p))
+last_along f g p b t end h before alike last =
+    ap (λ n. along (play_step script) g n (Running (spot_of (position_at b p)))) size
+    ∙ along-next (play_step script) g (t - b) (Running (spot_of (position_at b p))) (spot_of (position_at t p)) there
+    ∙ rw (front, last) (sym (along-next step_of f (t - b) (Running (position_at b p)) (position_at t p) (goes_to p b t h.position before)))
+    ∙ sym (ap (λ n. along step_of f n (Running (position_at b p))) size)
   where
     script : Script
     script = script_of p b (t + 1)
@@ -48,14 +50,23 @@ trace_last p b t end h before =
     there : play_of script (t - b) (spot_of (position_at b p)) ≡ Running (spot_of (position_at t p))
     there = rw sum at (path_follows p b (t + 1) (t - b) (rw sum h.position) (omega arith))
 
-    front : along (play_step script) (played_item script) (t - b) (Running (spot_of (position_at b p))) ≡ along step_of item_at (t - b) (Running (position_at b p))
-    front = path_along item_at (played_item script) p b (t + 1) (t - b) (items_alike script) (rw sum h.position) (omega arith)
+    front : along (play_step script) g (t - b) (Running (spot_of (position_at b p))) ≡ along step_of f (t - b) (Running (position_at b p))
+    front = path_along f g p b (t + 1) (t - b) alike (rw sum h.position) (omega arith)
 
-    last : played_item script (spot_of (position_at t p)) ≡ item_at (position_at t p)
-    last =
-        let over = last_step_of_run p t end h in
-        let halt = (stops (position_at t p) (position_at t p) end over).halts script (none_left p b t end h before) in
-        ap (λ x. item_of (position_at t p).machine (machine_of x)) halt.1 ∙ sym (ap (λ x. item_of (position_at t p).machine (completed x)) over)
+pub trace_last : (p : Position) (b t : ℕ) (end : End) → EndsAt p t end → b ≤ t → path_trace (last_path p b t) (t + 1 - b) ≡ trace_of (t + 1 - b) (position_at b p)
+trace_last p b t end h before =
+    let script = script_of p b (t + 1) in
+    let over = last_step_of_run p t end h in
+    let halt = (stops (position_at t p) (position_at t p) end over).halts script (none_left p b t end h before) in
+    last_along item_at (played_item script) p b t end h before (items_alike script)
+    (ap (λ x. item_of (position_at t p).machine (machine_of x)) halt.1 ∙ sym (ap (λ x. item_of (position_at t p).machine (completed x)) over))
+
+-- what the path to the end writes
+pub writes_last : (p : Position) (b t : ℕ) (end : End) → EndsAt p t end → b ≤ t → written_of (script_of p b (t + 1)) (t + 1 - b) (spot_of (position_at b p)) ≡ writes_of (t + 1 - b) (position_at b p)
+writes_last p b t end h before =
+    let script = script_of p b (t + 1) in
+    let no_entry = (stops (position_at t p) (position_at t p) end (last_step_of_run p t end h)).no_entry in
+    last_along writes_at (written_at script) p b t end h before (writes_alike script) (writes_at_end script (position_at t p) no_entry (none_left p b t end h before))
 
 -- the trace from position b to the end is that up to c and that from c on
 pub trace_split : (p : Position) (b c t : ℕ) → IsRunning (run_of c p) → b ≤ c → c ≤ t → trace_of (c - b) (position_at b p) ++ trace_of (t + 1 - c) (position_at c p) ≡ trace_of (t + 1 - b) (position_at b p)

@@ -96,8 +96,14 @@ pub fn lines_of_paths()
         → sum_by (λ (l : Line). l.calls) lines ≡ length (entries_of (t + 1) p) }
 {}
 
-/// The play between two positions writes what the run writes there.
-pub fn paths_write_the_same()
-    ensures { (p : Position) (b c k : ℕ) → IsRunning (run_of (b + k) p) → b + k ≤ c
+/// The play of the records between two positions is at the positions of the run, and writes what the run writes; so does
+/// that of the records up to the end of the run.
+pub fn paths_follow_the_run()
+    ensures positions { (p : Position) (b c k : ℕ) → IsRunning (run_of (b + k) p) → b + k ≤ c
+        → play_of (script_of p b c) k (spot_of (position_at b p)) ≡ Running (spot_of (position_at (b + k) p)) }
+    ensures writes { (p : Position) (b c k : ℕ) → IsRunning (run_of (b + k) p) → b + k ≤ c
         → written_of (script_of p b c) k (spot_of (position_at b p)) ≡ writes_of k (position_at b p) }
+    ensures last { (p : Position) (t : ℕ) (end : End) (b : ℕ) → EndsAt p t end → b ≤ t
+        → written_of (script_of p b (t + 1)) (t + 1 - b) (spot_of (position_at b p))
+        ≡ writes_of (t + 1 - b) (position_at b p) }
 {}
