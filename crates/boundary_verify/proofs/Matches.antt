@@ -37,7 +37,7 @@ no_repeat p t c n last end ended here before same =
     cc (goes_on.1, stops)
 
 -- the records up to e begin with those of the first k steps
-records_split : (p : Position) (b e k : ℕ) → k ≤ e - b → (script_of p b e).entries ≡ entries_of k (position_at b p) ++ along step_of entry_at (e - b - k) (run_of k (position_at b p))
+pub records_split : (p : Position) (b e k : ℕ) → k ≤ e - b → (script_of p b e).entries ≡ entries_of k (position_at b p) ++ along step_of entry_at (e - b - k) (run_of k (position_at b p))
 records_split p b e k within =
     let sum : e - b ≡ k + (e - b - k) = omega arith in
     ap (λ n. entries_of n (position_at b p)) sum ∙ along-add step_of entry_at k (e - b - k) (Running (position_at b p))
@@ -63,7 +63,7 @@ match_between p b c n last end ended there before = record {
         absurd (no_repeat p (b + k) c n last end ended there (omega arith) (running_same (path_after (path_between p b c) k) (spot_of (position_at (b + k) p)) (spot_of (position_at c p)) here met))
 
 -- the last position's step ends the run
-last_step_of_run : (p : Position) (t : ℕ) (end : End) → EndsAt p t end → step_of (position_at t p) ≡ Ended (position_at t p) end
+pub last_step_of_run : (p : Position) (t : ℕ) (end : End) → EndsAt p t end → step_of (position_at t p) ≡ Ended (position_at t p) end
 last_step_of_run p t end h = sym (after-next step_of t (Running p) (position_at t p) (at_position p t h.position)) ∙ h.over
 
 slice_get_none : {A : Type 0} (xs : List A) → slice_get xs (length xs) ≡ None
@@ -71,7 +71,7 @@ slice_get_none [] = refl
 slice_get_none (x ∷ xs) = slice_get_none xs
 
 -- at the last position no record of the run is left
-none_left : (p : Position) (b t : ℕ) (end : End) → EndsAt p t end → b ≤ t → entry_for (script_of p b (t + 1)) (position_at t p).calls ≡ None
+pub none_left : (p : Position) (b t : ℕ) (end : End) → EndsAt p t end → b ≤ t → entry_for (script_of p b (t + 1)) (position_at t p).calls ≡ None
 none_left p b t end h before = rw (place, records) (slice_get_none (entries_of (t - b) (position_at b p)))
   where
     sum : b + (t - b) ≡ t
@@ -90,7 +90,7 @@ none_left p b t end h before = rw (place, records) (slice_get_none (entries_of (
     place = let count : (position_at t p).calls ≡ (position_at b p).calls + length (entries_of (t - b) (position_at b p)) = calls_along (position_at b p) (position_at t p) (t - b) goes in omega arith
 
 -- a path to the end stands there after its last step
-at_end : (p : Position) (b t : ℕ) (end : End) → EndsAt p t end → b ≤ t → (halt : Halt) × (path_after (last_path p b t) (t + 1 - b) ≡ Ended (spot_of (position_at t p)) halt)
+pub at_end : (p : Position) (b t : ℕ) (end : End) → EndsAt p t end → b ≤ t → (halt : Halt) × (path_after (last_path p b t) (t + 1 - b) ≡ Ended (spot_of (position_at t p)) halt)
 at_end p b t end h before =
     let script = script_of p b (t + 1) in
     let sum : b + (t - b) ≡ t = omega arith in

@@ -1,2 +1,5 @@
 pub mod Path
 pub mod Job
+pub mod Cuts
+pub mod Pieces
+pub mod Lines
