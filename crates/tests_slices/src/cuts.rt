@@ -1,5 +1,6 @@
 // Pieces of runs of programs written by hand: their snapshots and their records.
 ghost use Rattle.std.specs.Prelude.{◌≡◌, ◌≤◌, ◌^◌, IfOk};
+ghost use Rattle.guest_mem.specs.Memory.{all_bytes};
 ghost use Rattle.boundary_verify.specs.Job.{IsNear};
 
 use boundary_verify::Boundary;
@@ -120,6 +121,22 @@ fn advance(
     Ok(())
 }
 
+// The end of a piece at which the guest stands, behind so many calls.
+fn end_of(guest: &mut Guest, base: &Snapshot, cut: &Cut, calls: u64) -> Result<Boundary, AllocError>
+    requires base { guest.old.origin ≡ all_bytes base.now.machine.space }
+    requires few { calls ≤ 2 ^ 63 }
+    ensures { IfOk result (λ end. IsNear base.now end) }
+{
+    if cut.steps.is_none() {
+        return Ok(Boundary::End);
+    }
+    let state = guest.snapshot()?;
+    Ok(Boundary::At {
+        state,
+        position: calls + u64::from(cut.ahead),
+    })
+}
+
 // The parts of a piece.
 pub fn parts_of(alloc: Global, cut: &Cut) -> Result<Parts, Fail>
     ensures { IfOk result (λ parts. (parts.position ≤ 2 ^ 40) × IsNear parts.start parts.end) }
@@ -130,23 +147,12 @@ pub fn parts_of(alloc: Global, cut: &Cut) -> Result<Parts, Fail>
     let mut earlier = Vec::new(alloc);
     advance(alloc, &mut guest, &mut host, &mut earlier, cut.from)?;
     let start = guest.snapshot()?;
-    let position = u64::from(cut.calls);
     let mut records = Vec::new(alloc);
-    advance(
-        alloc,
-        &mut guest,
-        &mut host,
-        &mut records,
-        cut.steps.unwrap_or(1000),
-    )?;
-    let end = if cut.steps.is_some() {
-        Boundary::At {
-            state: guest.snapshot()?,
-            position: position + records.len() as u64 + u64::from(cut.ahead),
-        }
-    } else {
-        Boundary::End
-    };
+    let steps = cut.steps.unwrap_or(1000);
+    advance(alloc, &mut guest, &mut host, &mut records, steps)?;
+    let position = cut.calls as u64;
+    let calls = position + records.len().min(1000) as u64;
+    let end = end_of(&mut guest, &start, cut, calls)?;
     Ok(Parts {
         start,
         position,

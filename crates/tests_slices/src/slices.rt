@@ -2,6 +2,7 @@
 ghost use Rattle.std.specs.Prelude.{◌≡◌, IfOk};
 
 use crate::cuts::{ADD_TWICE, Cut, FOUR_TURNS, THREE_TURNS, parts_of};
+use boundary_verify::Job;
 use elf_load::load;
 use ins_views::Views;
 use ordered_merge::Merger;
@@ -19,12 +20,10 @@ fn views_of(alloc: Global, code: &[u32]) -> Result<Views, Fail> {
     Ok(Views::new(alloc, &image)?)
 }
 
-// The piece of a slice.
-fn piece_of<T: Tool>(alloc: Global, tool: &T, index: u64, cut: &Cut) -> Result<Piece<T>, Fail>
-    ensures { IfOk result (λ piece. piece.index ≡ index) }
+// The job of a piece.
+fn job_of(alloc: Global, index: u64, cut: &Cut) -> Result<Job, Fail>
+    ensures { IfOk result (λ job. job.index ≡ index) }
 {
-    let views = views_of(alloc, cut.code)?;
-    let plan = make_plan(alloc, &views, tool)?;
     let parts = parts_of(alloc, cut)?;
     let job = checked_job(
         alloc,
@@ -36,7 +35,17 @@ fn piece_of<T: Tool>(alloc: Global, tool: &T, index: u64, cut: &Cut) -> Result<P
         1,
         100,
     );
-    let slice = open_slice(alloc, &plan, job.ok().ok_or("no job")?, tool)?;
+    Ok(job.ok().ok_or("no job")?)
+}
+
+// The piece of a slice.
+fn piece_of<T: Tool>(alloc: Global, tool: &T, index: u64, cut: &Cut) -> Result<Piece<T>, Fail>
+    ensures { IfOk result (λ piece. piece.index ≡ index) }
+{
+    let views = views_of(alloc, cut.code)?;
+    let plan = make_plan(alloc, &views, tool)?;
+    let job = job_of(alloc, index, cut)?;
+    let slice = open_slice(alloc, &plan, job, tool)?;
     Ok(run_slice(&plan, tool, slice)?)
 }
 
