@@ -2,7 +2,7 @@
 ghost use Rattle.std.specs.Prelude.{◌≡◌, IsTrue, ◌↔◌};
 ghost use Rattle.guest_model.specs.Play.{spot};
 ghost use Rattle.guest_mem.specs.Memory.{all_bytes};
-ghost use Rattle.boundary_verify.specs.Job.{boundary_of};
+ghost use Rattle.boundary_verify.specs.Job.{IsNear, boundary_of};
 ghost use Rattle.boundary_verify.specs.Path as paths;
 
 use call_record::Record;
@@ -16,6 +16,24 @@ pub enum Boundary {
     At { state: Snapshot, position: u64 },
     /// With the run.
     End,
+}
+
+impl Boundary {
+    /// Whether a guest that was made from `base` is at the boundary, at this record position; never where the slice ends with
+    /// the run. Only the pages are compared that the guest wrote, and those that the boundary names as changed.
+    pub fn is_at(&self, base: &Snapshot, guest: &Guest, position: u64) -> bool
+        requires made { guest.now.origin ≡ all_bytes base.now.machine.space }
+        requires near { IsNear base.now self.now }
+        ensures { IsTrue result ↔ (boundary_of self.now ≡ paths.At (spot guest.now.machine position)) }
+    {
+        match self {
+            Boundary::At {
+                state,
+                position: end,
+            } => position == *end && guest.same_as(base, state),
+            Boundary::End => false,
+        }
+    }
 }
 
 /// A slice that is yet to run: its play meets its boundary after some number of steps, which only contracts know.
@@ -68,11 +86,5 @@ pub fn whole_equal(guest: &Guest, position: u64, job: &Job) -> bool
     requires { guest.now.origin ≡ all_bytes job.now.start.machine.space }
     ensures { IsTrue result ↔ (boundary_of job.now.end ≡ paths.At (spot guest.now.machine position)) }
 {
-    match &job.end {
-        Boundary::At {
-            state,
-            position: end,
-        } => position == *end && guest.same_as(&job.start, state),
-        Boundary::End => false,
-    }
+    job.end.is_at(&job.start, guest, position)
 }

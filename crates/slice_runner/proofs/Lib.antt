@@ -3,3 +3,4 @@ pub mod Turns
 pub mod Frames
 pub mod SoFar
 pub mod Slices
+pub mod Trying

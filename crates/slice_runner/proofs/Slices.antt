@@ -73,7 +73,7 @@ item_count m c has is = go (instruction_at m) is
     go (Some i) e = ap (λ (b : Bool). cond {A = ℕ} b 1 0) e
 
 -- one step more of a path
-after_more : (path : Path) (k : ℕ) (old : Spot) (next : RunState Spot Halt) → path_after path k ≡ Running old → play_step path.script old ≡ next → path_after path (k + 1) ≡ next
+pub after_more : (path : Path) (k : ℕ) (old : Spot) (next : RunState Spot Halt) → path_after path k ≡ Running old → play_step path.script old ≡ next → path_after path (k + 1) ≡ next
 after_more path k old next here step = after-next (play_step path.script) k (Running path.start) old here ∙ step
 
 trace_more : (path : Path) (k : ℕ) (old : Spot) → path_after path k ≡ Running old → path_trace path (k + 1) ≡ path_trace path k ++ played_item path.script old
@@ -95,8 +95,8 @@ count_of_trace path k old has here all is =
     omega (arith, ap length (trace_more path k old here), size, all, item_count old.machine (machine_of (play_step path.script old)) has is)
 
 -- the start of a slice
-pub played_none : (job : JobFields) (guest : GuestState) → guest ≡ guest_from job.start job.peak → Played job 0 guest job.position
-played_none job guest is =
+pub played_none : (job : JobFields) (frames : ℕ) (guest : GuestState) → guest ≡ guest_from job.start frames → Played job frames 0 guest job.position
+played_none job frames guest is =
     let path = path_of job in record {
       there = after-zero (play_step path.script) (Running path.start) ∙ ap (λ (g : GuestState). Running (spot g.machine job.position)) (sym is);
       items = ap length (along-zero (play_step path.script) (played_item path.script) (Running path.start));
@@ -147,7 +147,7 @@ sooner job k s lasts unmatched = go (cases_lt k s)
     go (inr le) = absurd (unmatched s lasts.begun le lasts.met)
 
 -- the next record fits, and the next step lacks no frame
-pub next_fits : (job : JobFields) (k : ℕ) (guest : GuestState) (calls : ℕ) → IsJob job → Played job k guest calls → FitsAt (script_of_job job) (Running (spot guest.machine calls))
+pub next_fits : {frames : ℕ} (job : JobFields) (k : ℕ) (guest : GuestState) (calls : ℕ) → IsJob job → Played job frames k guest calls → FitsAt (script_of_job job) (Running (spot guest.machine calls))
 next_fits job k guest calls is played = go is.lasts
   where
     go : (s : ℕ) × Lasts (path_of job) job.peak s → FitsAt (script_of_job job) (Running (spot guest.machine calls))
@@ -173,7 +173,7 @@ few_by path k s peak size old all lasts lt here =
     few_among (written_of path.script (k + 1) path.start) split.0 (written_of path.script s path.start) (written_of path.script k path.start ++ written_at path.script old) peak size
     split.1 (written_more path k old here) (pages_marked (written_of path.script s path.start) size all) lasts.few
 
-pub next_has : (job : JobFields) (k : ℕ) (guest : GuestState) (calls : ℕ) → IsJob job → Played job k guest calls → KnowsFrames guest → HasAllFrames guest.frames (written_at (script_of_job job) (spot guest.machine calls))
+pub next_has : (job : JobFields) (k : ℕ) (guest : GuestState) (calls : ℕ) → IsJob job → Played job job.peak k guest calls → KnowsFrames guest → HasAllFrames guest.frames (written_at (script_of_job job) (spot guest.machine calls))
 next_has job k guest calls is played knows = go is.lasts
   where
     go : (s : ℕ) × Lasts (path_of job) job.peak s → HasAllFrames guest.frames (written_at (script_of_job job) (spot guest.machine calls))
@@ -202,9 +202,19 @@ unmatched_more path k new unmatched here differs j begun within met = go (cases_
         let same : j ≡ k + 1 = omega (arith, lt, within) in
         at_next path.boundary refl (subst (λ (n : ℕ). Meets path.boundary (path_after path n)) same met)
 
+-- the pages that are marked behind one step more
+pub marks_more : {frames : ℕ} (job : JobFields) (k : ℕ) (old new : GuestState) (calls later : ℕ) (on : Bool) → Played job frames k old calls → IsTurn (script_of_job job) old calls on new later
+    → new.frames.written ≡ marked_for_all (unmarked (2 ^ 20)) (written_of (path_of job).script (k + 1) (path_of job).start)
+marks_more job k old new calls later on played turn =
+    let path = path_of job in
+    let s = spot old.machine calls in
+    turn.marks.written ∙ ap (λ (marks : List Bool). marked_for_all marks (written_at path.script s)) played.written
+    ∙ sym (marked_for_all-append (unmarked (2 ^ 20)) (written_of path.script k path.start) (written_at path.script s))
+    ∙ ap (marked_for_all (unmarked (2 ^ 20))) (sym (written_more path k s played.there))
+
 -- one step more, at which the boundary is not met
-pub played_more : (job : JobFields) (k : ℕ) (old new : GuestState) (calls later : ℕ) → Played job k old calls → IsTurn (script_of_job job) old calls true new later
-    → (boundary_of job.end ≡ paths.At (spot new.machine later) → ⊥) → Played job (k + 1) new later
+pub played_more : {frames : ℕ} (job : JobFields) (k : ℕ) (old new : GuestState) (calls later : ℕ) → Played job frames k old calls → IsTurn (script_of_job job) old calls true new later
+    → (boundary_of job.end ≡ paths.At (spot new.machine later) → ⊥) → Played job frames (k + 1) new later
 played_more job k old new calls later played turn differs =
     let path = path_of job in
     let s = spot old.machine calls in
@@ -215,10 +225,7 @@ played_more job k old new calls later played turn differs =
       unmatched = unmatched_more path k (spot new.machine later) played.unmatched there differs;
       after = omega (arith, played.after, turn.not_less);
       within = omega (arith, played.within, turn.one_more);
-      written =
-          turn.marks.written ∙ ap (λ (marks : List Bool). marked_for_all marks (written_at path.script s)) played.written
-          ∙ sym (marked_for_all-append (unmarked (2 ^ 20)) (written_of path.script k path.start) (written_at path.script s))
-          ∙ ap (marked_for_all (unmarked (2 ^ 20))) (sym (written_more path k s played.there));
+      written = marks_more job k old new calls later true played turn;
       count = turn.marks.count ∙ played.count;
       origin = turn.origin ∙ played.origin;
     }
@@ -240,7 +247,7 @@ hits_more target spots s old new hits counts = record {
 }
 
 -- the position behind one step more, tested
-pub tested_more : (job : JobFields) (k : ℕ) (old new : GuestState) (calls later : ℕ) (before after : HitCounts) → Played job k old calls → IsTurn (script_of_job job) old calls true new later → Tested job k before
+pub tested_more : {frames : ℕ} (job : JobFields) (k : ℕ) (old new : GuestState) (calls later : ℕ) (before after : HitCounts) → Played job frames k old calls → IsTurn (script_of_job job) old calls true new later → Tested job k before
     → CountsBy job.end (spot new.machine later) before after → Tested job (k + 1) after
 tested_more job k old new calls later before after played turn tested counts = record {
   counted = go job.end tested.counted counts;
@@ -304,7 +311,7 @@ module _ {L : Type 0} (stands : List Event → L → Type 0) (plan : PlanFields)
 
 module _ {T L S : Type 0} (stands : List Event → L → Type 0) (plan : PlanFields) where
   -- a slice that came to its boundary
-  pub piece_at_end : (job : JobFields) (k : ℕ) (old new : GuestState) (calls later : ℕ) (local : L) (hits : Hits) (piece : Piece T L S) → Played job k old calls → IsTurn (script_of_job job) old calls true new later
+  pub piece_at_end : {frames : ℕ} (job : JobFields) (k : ℕ) (old new : GuestState) (calls later : ℕ) (local : L) (hits : Hits) (piece : Piece T L S) → Played job frames k old calls → IsTurn (script_of_job job) old calls true new later
       → boundary_of job.end ≡ paths.At (spot new.machine later) → Heard stands plan (path_of job) (k + 1) local → Tested job (k + 1) (counts_of hits)
       → IsPieceWith stands job local (k + 1) later hits piece → IsPieceOf stands plan job piece
   piece_at_end job k old new calls later local hits piece played turn end heard tested is =
@@ -322,7 +329,7 @@ module _ {T L S : Type 0} (stands : List Event → L → Type 0) (plan : PlanFie
       }
 
   -- a slice whose play ended, as one does that ends with the run
-  pub piece_at_halt : (job : JobFields) (k : ℕ) (old new : GuestState) (calls later : ℕ) (has : Bool) (local : L) (hits : Hits) (piece : Piece T L S) → IsJob job → Played job k old calls
+  pub piece_at_halt : {frames : ℕ} (job : JobFields) (k : ℕ) (old new : GuestState) (calls later : ℕ) (has : Bool) (local : L) (hits : Hits) (piece : Piece T L S) → IsJob job → Played job frames k old calls
       → IsTurn (script_of_job job) old calls false new later → is_some (instruction_at new.machine) ≡ has → Heard stands plan (path_of job) (k + 1) local → Tested job k (counts_of hits)
       → IsPieceWith stands job local (k + cond {A = ℕ} has 1 0) later hits piece → IsPieceOf stands plan job piece
   piece_at_halt job k old new calls later has local hits piece is_job played turn there heard tested is = go is_job.lasts (play_step path.script s) refl turn.plays.0

@@ -40,9 +40,9 @@ pub fn open_slice<T: Tool>(
     Ok(Slice { job, guest, local })
 }
 
-// What is so of the frames and the areas of every guest.
+/// What is so of the frames and the areas of every guest.
 #[inline(always)]
-fn know_frames(guest: &Guest)
+pub(crate) fn know_frames(guest: &Guest)
     ensures { KnowsFrames guest.now }
 {
     let _written = guest.space().written();

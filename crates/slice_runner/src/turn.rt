@@ -17,12 +17,20 @@ use std::alloc::AllocError;
 use tool_law::Tool;
 use tool_step::{after_call, operands_at, tool_step};
 
-// The record for the call at this record position, if one is left.
+/// The record for the call at this record position, if one is left of these, of which the first is for `first`.
+pub(crate) fn record_for(records: &[Record], first: u64, calls: u64) -> Option<&Record>
+    requires { first ≤ calls }
+    ensures { option_copied result ≡ entry_for (record { first = first; entries = records.now }) calls }
+{
+    records.get((calls - first) as usize)
+}
+
+// The same of the records of a job.
 fn entry_at(job: &Job, calls: u64) -> Option<&Record>
     requires { job.now.position ≤ calls }
     ensures { option_copied result ≡ entry_for (script_of_job job.now) calls }
 {
-    job.records.get((calls - job.position) as usize)
+    record_for(&job.records, job.position, calls)
 }
 
 // The call at which the guest stands, played: the events before it were given. False where no record is left for it.

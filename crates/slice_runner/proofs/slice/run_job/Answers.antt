@@ -12,7 +12,7 @@ use Rattle.slice_runner.proofs.slice.run_job.Goals as goal
 pub loop-turn-init : goal.loop-turn-init
 loop-turn-init g c =
     let job = c.args.job.now in record {
-      played = subst (λ (n : ℕ). Played job 0 c.args.guest n) (sym (ap (λ (j : JobFields). j.position) c.job.view_is)) (played_none job c.args.guest c.requires.guest);
+      played = subst (λ (n : ℕ). Played job job.peak 0 c.args.guest n) (sym (ap (λ (j : JobFields). j.position) c.job.view_is)) (played_none job job.peak c.args.guest c.requires.guest);
       heard = heard_none (g.T.Tool.is_local c.args.tool.now) c.args.plan.now (path_of job) c.args.local c.requires.local;
       tested = tested_none job;
     }
