@@ -1,5 +1,5 @@
 -- The pieces of a run, joined, are its trace.
-use Rattle.std.proofs.Common.{◌≡◌, ℕ, ◌+◌, ◌-◌, ◌≤◌, ◌<◌, List, [], ◌∷◌, ◌++◌, refl, sym, ap, ◌∙◌, arith, le_of_lt}
+use Rattle.std.proofs.Common.{◌≡◌, ℕ, ◌+◌, ◌-◌, ◌≤◌, ◌<◌, List, [], ◌∷◌, ◌++◌, refl, sym, ap, ◌∙◌, arith, le_of_lt, subst}
 use Rattle.std.specs.List.{flat_map}
 use Rattle.std.proofs.lemmas.List.{append-nil}
 use Rattle.guest_model.specs.Play.{Script, Spot, machine_of, play_of, play_step, played_item, spot_of, written_at, written_of}
@@ -9,7 +9,7 @@ use Rattle.guest_model.proofs.Onward.{stops}
 use Rattle.guest_model.proofs.Runs.{along-add, along-next, running_earlier}
 use Rattle.boundary_verify.specs.Cuts.{AreBetween, writes_at, writes_of}
 use Rattle.boundary_verify.specs.Path.{IsMatch, Path, last_path, path_between, path_trace, script_of}
-use Rattle.boundary_verify.specs.Pieces.{ArePieces, IsPiece}
+use Rattle.boundary_verify.specs.Pieces.{ArePieces, HoldsForFirst, HoldsForPaths, IsPiece}
 use Rattle.boundary_verify.proofs.Along.{AreAlike, goes_to, items_alike, path_along, position_zero, writes_alike, writes_at_end}
 use Rattle.boundary_verify.proofs.Cuts.{within_last}
 use Rattle.boundary_verify.proofs.Matches.{last_step_of_run, match_between, match_last, none_left, path_follows}
@@ -98,3 +98,17 @@ trace_from_start p t =
 
 pub joined : (p : Position) (t : ℕ) (end : End) (cuts : List ℕ) (pieces : List (List TraceItem)) → EndsAt p t end → AreBetween t 0 cuts → ArePieces p t 0 cuts pieces → flat_map (λ x. x) pieces ≡ trace_of (t + 1) p
 joined p t end cuts pieces h order all = joined_from p t end 0 cuts pieces h order all ∙ trace_from_start p t
+
+-- one path after the other
+pub path_more : {X : Type 0} (P : Path → X → Type 0) (p : Position) (b e c : ℕ) (cuts : List ℕ) (xs : List X) (x : X) → HoldsForFirst P p e b cuts xs → P (path_between p e c) x → HoldsForFirst P p c b (cuts ++ c ∷ []) (xs ++ x ∷ [])
+path_more P p b e c [] [] x h next = (subst (λ o. P (path_between p o c) x) h next, refl)
+path_more P p b e c [] (y ∷ xs) x h next = absurd h
+path_more P p b e c (d ∷ cuts) [] x h next = absurd h
+path_more P p b e c (d ∷ cuts) (y ∷ xs) x h next = (h.0, path_more P p d e c cuts xs x h.1 next)
+
+pub paths_all : {X : Type 0} (P : Path → X → Type 0) (p : Position) (t b e : ℕ) (cuts : List ℕ) (xs : List X) (x : X) → HoldsForFirst P p e b cuts xs → P (last_path p e t) x → HoldsForPaths P p t b cuts (xs ++ x ∷ [])
+paths_all P p t b e [] [] x h last = subst (λ o. P (last_path p o t) x) h last
+paths_all P p t b e [] (y ∷ xs) x h last = absurd h
+paths_all P p t b e (c ∷ cuts) [] x h last = absurd h
+paths_all P p t b e (c ∷ cuts) (y ∷ []) x h last = (h.0, paths_all P p t c e cuts [] x h.1 last)
+paths_all P p t b e (c ∷ cuts) (y ∷ z ∷ xs) x h last = (h.0, paths_all P p t c e cuts (z ∷ xs) x h.1 last)

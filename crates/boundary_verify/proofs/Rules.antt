@@ -18,14 +18,14 @@ none_is t b s (c ∷ cuts) order le = rw (ne_eqb c s (λ same. absurd (omega (ar
 pub cut_by_rule : (limits : CutLimits) (answers : ℕ → Bool) (p : Position) (t b s : ℕ) (cuts : List ℕ) → AreCutsAfter limits answers p t b cuts → b < s → s ≤ t
     → list_any (λ c. c == s) cuts ≡ is_cut limits answers p (last_before b cuts s) s
 cut_by_rule limits answers p t b s [] h after within = sym (h.1 s after (omega arith))
-cut_by_rule limits answers p t b s (c ∷ cuts) h after within = go (cut_by_rule limits answers p t c s cuts h.3) (cases_order c s)
+cut_by_rule limits answers p t b s (c ∷ cuts) h after within = go (cut_by_rule limits answers p t c s cuts h.1) (cases_order c s)
   where
     go : (c < s → s ≤ t → list_any (λ e. e == s) cuts ≡ is_cut limits answers p (last_before c cuts s) s) → (c ≡ s) ⊎ ((c < s) ⊎ (s < c))
         → list_any (λ e. e == s) (c ∷ cuts) ≡ is_cut limits answers p (last_before b (c ∷ cuts) s) s
-    go later (inl same) = rw (eq-eqb c s same, le-ltb c s (omega arith)) (sym h.2 ∙ ap (is_cut limits answers p b) same)
+    go later (inl same) = rw (eq-eqb c s same, le-ltb c s (omega arith)) (sym h.0.is ∙ ap (is_cut limits answers p b) same)
     go later (inr (inl lt)) = rw (ne_eqb c s (λ same. absurd (omega (arith, lt, same))), lt-ltb c s lt) (later lt within)
     go later (inr (inr gt)) =
-        rw (ne_eqb c s (λ same. absurd (omega (arith, gt, same))), le-ltb c s (omega arith), none_is t c s cuts (cuts_rise limits answers p t c cuts h.3) (omega arith)) (sym (h.1 s after gt))
+        rw (ne_eqb c s (λ same. absurd (omega (arith, gt, same))), le-ltb c s (omega arith), none_is t c s cuts (cuts_rise limits answers p t c cuts h.1) (omega arith)) (sym (h.0.none_before s after gt))
 
 -- 1 or 0
 abbrev one_if : Bool → ℕ
@@ -108,9 +108,9 @@ pub alone_from : (limits : CutLimits) (answers : ℕ → Bool) (p : Position) (t
 unfolding paced_alone
 alone_from limits answers p t b [] positive h = let same = granted_to_end limits answers p t b positive h.0 h.1 in omega (arith, same)
 alone_from limits answers p t b (c ∷ cuts) positive h =
-    let first = granted_to_cut limits answers p b c positive h.0 h.1 in
-    let one = alone_is_paced (is_paced limits answers c) (is_full limits (position_at b p) (c - b)) h.2 in
-    let rest = alone_from limits answers p t c cuts positive h.3 in omega (arith, first, one, rest)
+    let first = granted_to_cut limits answers p b c positive h.0.later h.0.none_before in
+    let one = alone_is_paced (is_paced limits answers c) (is_full limits (position_at b p) (c - b)) h.0.is in
+    let rest = alone_from limits answers p t c cuts positive h.1 in omega (arith, first, one, rest)
 
 -- where the pacer tells a cut there is a multiple
 paced_is_multiple : (limits : CutLimits) (answers : ℕ → Bool) (c : ℕ) → one_if (is_paced limits answers c) ≤ one_if (c % limits.poll == 0)
@@ -127,9 +127,9 @@ pub each_from : (limits : CutLimits) (answers : ℕ → Bool) (p : Position) (t 
     → granted_among answers (t / limits.poll) ≤ granted_among answers (b / limits.poll) + count_by (λ c. c % limits.poll == 0) cuts
 each_from limits answers p t b [] positive h = let same = granted_to_end limits answers p t b positive h.0 h.1 in omega (arith, same)
 each_from limits answers p t b (c ∷ cuts) positive h =
-    let first = granted_to_cut limits answers p b c positive h.0 h.1 in
+    let first = granted_to_cut limits answers p b c positive h.0.later h.0.none_before in
     let one = paced_is_multiple limits answers c in
-    let rest = each_from limits answers p t c cuts positive h.3 in
+    let rest = each_from limits answers p t c cuts positive h.1 in
     let count = sum_by-cons (λ e. one_if (e % limits.poll == 0)) c cuts in omega (arith, first, one, rest, count)
 
 -- from position 0 on

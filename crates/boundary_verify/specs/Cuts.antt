@@ -1,5 +1,6 @@
 -- The cuts of a run: the positions at which one slice ends and the next one starts.
-use Rattle.std.specs.Prelude.{◌≡◌, ℕ, zero, suc, ◌+◌, ◌-◌, ◌/◌, ◌%◌, ◌<◌, ◌≤◌, ◌==◌, nat_lt, nat_le, Bool, true, false, ◌&&◌, ◌||◌, List, [], ◌∷◌, map, if◌then◌else◌}
+use Rattle.std.specs.Prelude.{◌≡◌, ℕ, zero, suc, ◌+◌, ◌-◌, ◌/◌, ◌%◌, ◌<◌, ◌≤◌, ◌==◌, nat_lt, nat_le, if◌then◌else◌}
+use Rattle.std.specs.Prelude.{Bool, true, false, ◌&&◌, ◌||◌, List, [], ◌∷◌, map}
 use Rattle.std.specs.List.{flat_map}
 use Rattle.call_record.specs.Record.{CallRecord, size_of_records}
 use Rattle.guest_model.specs.Effect.{Effect, Next, Call, Fault, effect_of}
@@ -40,12 +41,13 @@ writes_at p = writes_by p (effect_of p.machine)
 abbrev pub writes_of : ℕ → Position → List Range
 writes_of n p = along step_of writes_at n (Running p)
 
--- the pacer's answers by their numbers, the first with number 1: it is asked once at each multiple of the period above 0, and a cut is where it answers true
+-- the pacer's answers by their numbers, the first with number 1: it is asked once at each multiple of the period above 0, and
+-- where it answers true is a cut
 unfoldable pub is_paced : CutLimits → (ℕ → Bool) → ℕ → Bool
 is_paced limits answers t = nat_lt 0 t && (t % limits.poll == 0 && answers (t / limits.poll))
 
--- n steps behind the last cut, at which the run stood at `last`: so many calls went on since, or their records hold so many bytes, or the steps wrote
--- more than so many different pages
+-- n steps behind the last cut, at which the run stood at `last`: so many calls went on since, or their records hold so many
+-- bytes, or the steps wrote more than so many different pages
 unfoldable pub is_full : CutLimits → Position → ℕ → Bool
 is_full limits last n =
     nat_le limits.records ((position_at n last).calls - last.calls)
@@ -59,13 +61,24 @@ is_cut limits answers p b t = is_paced limits answers t || is_full limits (posit
 abbrev pub HasNoCut : CutLimits → (ℕ → Bool) → Position → ℕ → ℕ → Type 0
 HasNoCut limits answers p b c = (s : ℕ) → b < s → s < c → is_cut limits answers p b s ≡ false
 
+-- c is the first one behind b
+pub record IsNextCut (limits : CutLimits) (answers : ℕ → Bool) (p : Position) (b c : ℕ) : Type 0 where
+  pub later : b < c
+  pub none_before : HasNoCut limits answers p b c
+  pub is : is_cut limits answers p b c ≡ true
+
 -- these are all cuts behind b, which is one or 0, in order, of the run from p whose last position is t
 abbrev pub AreCutsAfter : CutLimits → (ℕ → Bool) → Position → ℕ → ℕ → List ℕ → Type 0
 AreCutsAfter limits answers p t b [] = (b ≤ t) × HasNoCut limits answers p b (t + 1)
-AreCutsAfter limits answers p t b (c ∷ cuts) = (b < c) × HasNoCut limits answers p b c × (is_cut limits answers p b c ≡ true) × AreCutsAfter limits answers p t c cuts
+AreCutsAfter limits answers p t b (c ∷ cuts) = IsNextCut limits answers p b c × AreCutsAfter limits answers p t c cuts
 
 abbrev pub AreCuts : CutLimits → (ℕ → Bool) → Position → ℕ → List ℕ → Type 0
 AreCuts limits answers p t cuts = AreCutsAfter limits answers p t 0 cuts
+
+-- these are the first cuts of the run behind b, the last of them e, or none and e is b
+abbrev pub AreFirstCuts : CutLimits → (ℕ → Bool) → Position → ℕ → ℕ → List ℕ → Type 0
+AreFirstCuts limits answers p e b [] = e ≡ b
+AreFirstCuts limits answers p e b (c ∷ cuts) = IsNextCut limits answers p b c × AreFirstCuts limits answers p e c cuts
 
 -- these are some positions behind b, in order, none behind t
 abbrev pub AreBetween : ℕ → ℕ → List ℕ → Type 0

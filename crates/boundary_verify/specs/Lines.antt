@@ -4,7 +4,8 @@ use Rattle.guest_model.specs.Play.{Spot, spot_of}
 use Rattle.guest_model.specs.Runs.{Running, reached, state_of}
 use Rattle.guest_model.specs.Serial.{Position, position_at, step_of, trace_of}
 use Rattle.guest_model.specs.Tests.{AreHits, HitCounts, no_hits}
-use Rattle.boundary_verify.specs.Path.{AreHitsOf, IsMatch, Path, last_path, path_after, path_between, path_trace}
+use Rattle.boundary_verify.specs.Path.{AreHitsOf, IsMatch, Path, path_after, path_trace}
+use Rattle.boundary_verify.specs.Pieces.{HoldsForPaths}
 
 pub record Line : Type 0 where
   -- its instructions, and its calls
@@ -47,8 +48,4 @@ pub record IsLineOf (path : Path) (line : Line) : Type 0 where
 
 -- one such line for each path
 abbrev pub AreLinesOfPaths : Position → ℕ → ℕ → List ℕ → List Line → Type 0
-AreLinesOfPaths p t b [] [] = ⊥
-AreLinesOfPaths p t b [] (line ∷ []) = IsLineOf (last_path p b t) line
-AreLinesOfPaths p t b [] (line ∷ other ∷ lines) = ⊥
-AreLinesOfPaths p t b (c ∷ cuts) [] = ⊥
-AreLinesOfPaths p t b (c ∷ cuts) (line ∷ lines) = IsLineOf (path_between p b c) line × AreLinesOfPaths p t c cuts lines
+AreLinesOfPaths p t b cuts lines = HoldsForPaths IsLineOf p t b cuts lines

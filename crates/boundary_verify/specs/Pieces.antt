@@ -9,10 +9,22 @@ pub record IsPiece (path : Path) (items : List TraceItem) : Type 0 where
   pub exact : IsMatch path distance
   pub items_are : items ≡ path_trace path distance
 
--- one piece for each path, from position b on, of the run from p whose last position is t, where it is cut so
+-- P says of each path between neighbouring cuts, from position b on, and of the path from the last cut to the end of the run from
+-- p, whose last position is t, something of the member of the list that stands in its place
+abbrev pub HoldsForPaths : {X : Type 0} → (Path → X → Type 0) → Position → ℕ → ℕ → List ℕ → List X → Type 0
+HoldsForPaths P p t b [] [] = ⊥
+HoldsForPaths P p t b [] (x ∷ []) = P (last_path p b t) x
+HoldsForPaths P p t b [] (x ∷ other ∷ xs) = ⊥
+HoldsForPaths P p t b (c ∷ cuts) [] = ⊥
+HoldsForPaths P p t b (c ∷ cuts) (x ∷ xs) = P (path_between p b c) x × HoldsForPaths P p t c cuts xs
+
+-- the same of the paths between neighbouring cuts alone, from position b up to the last one, e
+abbrev pub HoldsForFirst : {X : Type 0} → (Path → X → Type 0) → Position → ℕ → ℕ → List ℕ → List X → Type 0
+HoldsForFirst P p e b [] [] = e ≡ b
+HoldsForFirst P p e b [] (x ∷ xs) = ⊥
+HoldsForFirst P p e b (c ∷ cuts) [] = ⊥
+HoldsForFirst P p e b (c ∷ cuts) (x ∷ xs) = P (path_between p b c) x × HoldsForFirst P p e c cuts xs
+
+-- one piece for each path
 abbrev pub ArePieces : Position → ℕ → ℕ → List ℕ → List (List TraceItem) → Type 0
-ArePieces p t b [] [] = ⊥
-ArePieces p t b [] (items ∷ []) = IsPiece (last_path p b t) items
-ArePieces p t b [] (items ∷ other ∷ pieces) = ⊥
-ArePieces p t b (c ∷ cuts) [] = ⊥
-ArePieces p t b (c ∷ cuts) (items ∷ pieces) = IsPiece (path_between p b c) items × ArePieces p t c cuts pieces
+ArePieces p t b cuts pieces = HoldsForPaths IsPiece p t b cuts pieces

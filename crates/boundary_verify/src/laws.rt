@@ -1,13 +1,14 @@
 //! Laws of paths, of matches and of cuts. None of these functions does anything: each carries a law.
-ghost use Rattle.std.specs.Prelude.{◌≡◌, ℕ, ◌+◌, ◌-◌, ◌/◌, ◌%◌, ◌==◌, ◌≤◌, ◌<◌, Bool, List, length};
+ghost use Rattle.std.specs.Prelude.{◌≡◌, ℕ, ◌+◌, ◌-◌, ◌/◌, ◌%◌, ◌==◌, ◌≤◌, ◌<◌, Bool, List, [], ◌∷◌, ◌++◌, length};
 ghost use Rattle.std.specs.List.{count_by, flat_map, list_any, sum_by};
 ghost use Rattle.guest_model.specs.Play.{Spot, Script, play_of, spot_of, written_of};
 ghost use Rattle.guest_model.specs.Runs.{Ended, Running, IsRunning};
 ghost use Rattle.guest_model.specs.Serial.{Position, End, EndsAt, TraceItem, entries_of, position_at, run_of, trace_of};
-ghost use Rattle.boundary_verify.specs.Cuts.{AreBetween, AreCuts, CutLimits, granted_among, is_cut, last_before, paced_alone, writes_of};
-ghost use Rattle.boundary_verify.specs.Lines.{AreLines, AreLinesOfPaths, Line};
+ghost use Rattle.boundary_verify.specs.Cuts.{AreBetween, AreCuts, AreFirstCuts, CutLimits, HasNoCut, IsNextCut};
+ghost use Rattle.boundary_verify.specs.Cuts.{granted_among, is_cut, last_before, paced_alone, writes_of};
+ghost use Rattle.boundary_verify.specs.Lines.{AreLines, AreLinesOfPaths, IsLineOf, Line};
 ghost use Rattle.boundary_verify.specs.Path.{IsMatch, last_path, path_between, script_of};
-ghost use Rattle.boundary_verify.specs.Pieces.{ArePieces};
+ghost use Rattle.boundary_verify.specs.Pieces.{ArePieces, HoldsForFirst, IsPiece};
 
 /// A play that comes back to a machine and record position, in one or more steps, never ends.
 pub fn recurrence()
@@ -56,6 +57,16 @@ pub fn one_list_of_cuts()
         → AreCuts limits answers p t cuts → AreCuts limits answers p t others → cuts ≡ others }
 {}
 
+/// The cuts of a run are found one after the other, each from the one before.
+pub fn cuts_one_by_one()
+    ensures more { (limits : CutLimits) (answers : ℕ → Bool) (p : Position) (e c : ℕ) (cuts : List ℕ)
+        → AreFirstCuts limits answers p e 0 cuts → IsNextCut limits answers p e c
+        → AreFirstCuts limits answers p c 0 (cuts ++ c ∷ []) }
+    ensures all { (limits : CutLimits) (answers : ℕ → Bool) (p : Position) (t e : ℕ) (cuts : List ℕ)
+        → AreFirstCuts limits answers p e 0 cuts → e ≤ t → HasNoCut limits answers p e (t + 1)
+        → AreCuts limits answers p t cuts }
+{}
+
 /// Of the positions of a run above 0, up to its last one, those are cuts at which one of the four rules holds, which look
 /// back to the last earlier cut, or to position 0.
 pub fn cuts_by_rule()
@@ -79,6 +90,22 @@ pub fn cuts_and_grants()
 pub fn pieces_join()
     ensures { (p : Position) (t : ℕ) (end : End) (cuts : List ℕ) (pieces : List (List TraceItem)) → EndsAt p t end
         → AreBetween t 0 cuts → ArePieces p t 0 cuts pieces → flat_map (λ x. x) pieces ≡ trace_of (t + 1) p }
+{}
+
+/// What is so of each path up to a cut, and then of the next one, is so of all, for their pieces and their lines alike.
+pub fn paths_one_by_one()
+    ensures pieces { (p : Position) (e c : ℕ) (cuts : List ℕ) (pieces : List (List TraceItem)) (items : List TraceItem)
+        → HoldsForFirst IsPiece p e 0 cuts pieces → IsPiece (path_between p e c) items
+        → HoldsForFirst IsPiece p c 0 (cuts ++ c ∷ []) (pieces ++ items ∷ []) }
+    ensures all_pieces { (p : Position) (t e : ℕ) (cuts : List ℕ) (pieces : List (List TraceItem)) (items : List TraceItem)
+        → HoldsForFirst IsPiece p e 0 cuts pieces → IsPiece (last_path p e t) items
+        → ArePieces p t 0 cuts (pieces ++ items ∷ []) }
+    ensures lines { (p : Position) (e c : ℕ) (cuts : List ℕ) (lines : List Line) (line : Line)
+        → HoldsForFirst IsLineOf p e 0 cuts lines → IsLineOf (path_between p e c) line
+        → HoldsForFirst IsLineOf p c 0 (cuts ++ c ∷ []) (lines ++ line ∷ []) }
+    ensures all_lines { (p : Position) (t e : ℕ) (cuts : List ℕ) (lines : List Line) (line : Line)
+        → HoldsForFirst IsLineOf p e 0 cuts lines → IsLineOf (last_path p e t) line
+        → AreLinesOfPaths p t 0 cuts (lines ++ line ∷ []) }
 {}
 
 /// In a run that ends, what the plays of the paths count up to their matches is what the lines of the run say, of which
