@@ -1,5 +1,5 @@
 -- The calls at the three points are all calls.
-use Rattle.std.proofs.Common.{◌≡◌, ◌+◌, ℕ, List, [], ◌∷◌, length, arith, refl}
+use Rattle.std.proofs.Common.{◌≡◌, ◌+◌, ◌≤◌, ℕ, List, [], ◌∷◌, length, arith, refl}
 use Rattle.std.specs.Prelude.{Option}
 use Rattle.std.proofs.lemmas.List.{length-map}
 use Rattle.rv_isa.specs.declared.op.Op.{Op}
@@ -29,3 +29,7 @@ length-plan_calls op point calls = length-map (calls_at point calls) (plan_call 
 pub planned_points : (op : Option Op) (calls : List Call) → length (plan_calls op Before calls) + length (plan_calls op After calls) + length (plan_calls op Taken calls) ≡ length calls
 planned_points op calls =
     rw (length-plan_calls op Before calls, length-plan_calls op After calls, length-plan_calls op Taken calls) (all_points calls)
+
+-- those at `Before` are not more than all
+pub planned_before : (op : Option Op) (calls : List Call) → length (plan_calls op Before calls) ≤ length calls
+planned_before op calls = omega (arith, planned_points op calls)

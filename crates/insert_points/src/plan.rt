@@ -1,6 +1,5 @@
 // What is called where.
-ghost use Rattle.std.specs.Prelude.{◌≡◌, ◌++◌, ◌+◌, ◌≤◌, ℕ, length};
-ghost use Rattle.arrayvec.specs.ArrayVec.{array_vec_len};
+ghost use Rattle.std.specs.Prelude.{◌≡◌, ◌++◌, ◌+◌, ◌≤◌, IfOk, OnOk, length};
 ghost use Rattle.insert_points.specs.Calls.{calls_at};
 ghost use Rattle.insert_points.specs.Planned.{plan_calls};
 ghost use Rattle.insert_points.specs.Plan.{FewCalls, Fits, IsSite, calls_of, site_with};
@@ -56,21 +55,24 @@ impl Model for Plan {
 
 // Adds the calls at a point, made ready, and says how many they are.
 #[tactic(auto, unfolding(crate::specs::Planned::plan_calls))]
-fn push_at(list: &mut ArrayVec<PlannedCall, 24>, op: Option<Op>, point: Point, calls: &[Call]) -> u8
-    requires few { length calls.now ≤ 8 }
-    requires room { array_vec_len list.old + length calls.now ≤ 24 }
-    ensures items { list.new.items ≡ list.old.items ++ plan_calls op point calls.now }
-    ensures count { result ≡ length (plan_calls op point calls.now) }
-    ensures len { array_vec_len list.new ≡ array_vec_len list.old + result }
-    ensures within { result ≤ length calls.now }
+fn push_at(
+    list: &mut Vec<PlannedCall>,
+    op: Option<Op>,
+    point: Point,
+    calls: &[Call],
+) -> Result<u8, AllocError>
+    requires { length calls.now ≤ 8 }
+    ensures items { OnOk result (list.new.items ≡ list.old.items ++ plan_calls op point calls.now) }
+    ensures len { OnOk result (length list.new.items ≡ length list.old.items + length (plan_calls op point calls.now)) }
+    ensures count { IfOk result (λ count. count ≡ length (plan_calls op point calls.now)) }
 {
     let from = list.len();
     for call in calls {
         if same_point(call.at, point) {
-            list.push(PlannedCall::of(op, call));
+            list.push(PlannedCall::of(op, call))?;
         }
     }
-    (list.len() - from) as u8
+    Ok((list.len() - from) as u8)
 }
 
 // The calls of a site.
@@ -193,13 +195,13 @@ impl Plan {
         ensures refused { OnErr result ((a : ℕ) → a < 2 ^ 32 → called_at self.new a ≡ called_at self.old a) }
     {
         let calls = calls.as_slice();
-        let mut list = ArrayVec::new();
+        let mut list = Vec::new(*self.pool.calls.allocator());
         match thing {
             Thing::Ins { pc, instr } => {
                 let op = Some(instr.op);
-                let before = push_at(&mut list, op, Point::Before, calls);
-                let after = push_at(&mut list, op, Point::After, calls);
-                let taken = push_at(&mut list, op, Point::Taken, calls);
+                let before = push_at(&mut list, op, Point::Before, calls)?;
+                let after = push_at(&mut list, op, Point::After, calls)?;
+                let taken = push_at(&mut list, op, Point::Taken, calls)?;
                 let placing = Placing::Instruction {
                     before,
                     after,
@@ -208,11 +210,11 @@ impl Plan {
                 self.put(*pc, placing, list.as_slice())
             }
             Thing::Block(block) => {
-                push_at(&mut list, None, Point::Before, calls);
+                push_at(&mut list, None, Point::Before, calls)?;
                 self.put(block.head, Placing::Block, list.as_slice())
             }
             Thing::Routine { start, .. } => {
-                push_at(&mut list, None, Point::Before, calls);
+                push_at(&mut list, None, Point::Before, calls)?;
                 self.put(*start, Placing::Routine, list.as_slice())
             }
         }
