@@ -1,5 +1,5 @@
 -- The events that a tool is given in a run, by its calls for each thing.
-use Rattle.std.specs.Prelude.{ℕ, List}
+use Rattle.std.specs.Prelude.{List}
 use Rattle.std.specs.List.{flat_map}
 use Rattle.guest_model.specs.Serial.{TraceItem}
 use Rattle.ins_views.specs.Views.{ViewFields}

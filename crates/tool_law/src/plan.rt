@@ -9,18 +9,23 @@ ghost use Rattle.tool_law.specs.Planning.{IsOpen, called_of, called_offered, cod
 use crate::tool::Tool;
 use arrayvec::ArrayVec;
 use ins_views::{Block, Code, Views};
-use insert_points::{Plan, Thing};
+use insert_points::{Call, Plan, Thing};
 use rv_isa::is_terminator;
 use std::alloc::{AllocError, Global};
 
-// Offers a thing.
-fn offer<T: Tool>(plan: &mut Plan, tool: &T, thing: &Thing) -> Result<(), AllocError>
+// Offers a thing. `calls` is a list to write in, so that none is made for each thing.
+fn offer<T: Tool>(
+    plan: &mut Plan,
+    tool: &T,
+    thing: &Thing,
+    calls: &mut ArrayVec<Call, 8>,
+) -> Result<(), AllocError>
     ensures { OnOk result ((a : ℕ) → a < 2 ^ 32 → called_at plan.new a
         ≡ called_after thing.now (T.calls_of tool.now thing.now) a (called_at plan.old a)) }
 {
-    let mut calls = ArrayVec::new();
-    tool.insert(thing, &mut calls);
-    plan.offer(thing, &calls)
+    calls.clear();
+    tool.insert(thing, calls);
+    plan.offer(thing, calls)
 }
 
 // The length of the block at an address, or 0 where no instruction stands.
@@ -39,6 +44,7 @@ fn offer_at<T: Tool>(
     plan: &mut Plan,
     views: &Views,
     tool: &T,
+    calls: &mut ArrayVec<Call, 8>,
     pc: u32,
     rest: u32,
 ) -> Result<u32, AllocError>
@@ -54,8 +60,9 @@ fn offer_at<T: Tool>(
         None => Ok(0),
         Some(instr) => {
             let len = if is_terminator(&instr) { 1 } else { rest + 1 };
-            offer(plan, tool, &Thing::Ins { pc, instr })?;
-            offer(plan, tool, &Thing::Block(Block { head: pc, len }))?;
+            offer(plan, tool, &Thing::Ins { pc, instr }, calls)?;
+            let block = Thing::Block(Block { head: pc, len });
+            offer(plan, tool, &block, calls)?;
             Ok(len)
         }
     }
@@ -67,6 +74,7 @@ fn offer_code<T: Tool>(
     views: &Views,
     tool: &T,
     code: &Code,
+    calls: &mut ArrayVec<Call, 8>,
 ) -> Result<(), AllocError>
     requires views { IsViews views.now }
     requires code { IsCode code.now }
@@ -86,25 +94,35 @@ fn offer_code<T: Tool>(
     let words = code.words();
     let mut len = block_length(views, first + 4 * words);
     for k in (0..words).rev() {
-        len = offer_at(plan, views, tool, first + 4 * k, len)?;
+        len = offer_at(plan, views, tool, calls, first + 4 * k, len)?;
     }
     Ok(())
 }
 
 // Offers all code.
-fn offer_codes<T: Tool>(plan: &mut Plan, views: &Views, tool: &T) -> Result<(), AllocError>
+fn offer_codes<T: Tool>(
+    plan: &mut Plan,
+    views: &Views,
+    tool: &T,
+    calls: &mut ArrayVec<Call, 8>,
+) -> Result<(), AllocError>
     requires { (a : ℕ) → a < 2 ^ 32 → called_at plan.old a ≡ nothing_called }
     ensures { OnOk result ((a : ℕ) → a < 2 ^ 32
         → called_at plan.new a ≡ code_called (T.calls_of tool.now) views.now a) }
 {
     for code in views.code() {
-        offer_code(plan, views, tool, code)?;
+        offer_code(plan, views, tool, code, calls)?;
     }
     Ok(())
 }
 
 // Offers all routines.
-fn offer_routines<T: Tool>(plan: &mut Plan, views: &Views, tool: &T) -> Result<(), AllocError>
+fn offer_routines<T: Tool>(
+    plan: &mut Plan,
+    views: &Views,
+    tool: &T,
+    calls: &mut ArrayVec<Call, 8>,
+) -> Result<(), AllocError>
     requires { (a : ℕ) → a < 2 ^ 32
         → called_at plan.old a ≡ code_called (T.calls_of tool.now) views.now a }
     ensures { OnOk result ((a : ℕ) → a < 2 ^ 32
@@ -112,7 +130,7 @@ fn offer_routines<T: Tool>(plan: &mut Plan, views: &Views, tool: &T) -> Result<(
 {
     for k in (0..views.routines()).rev() {
         let start = views.routine(k).start;
-        offer(plan, tool, &Thing::Routine { start, index: k })?;
+        offer(plan, tool, &Thing::Routine { start, index: k }, calls)?;
     }
     Ok(())
 }
@@ -124,7 +142,8 @@ pub fn make_plan<T: Tool>(alloc: Global, views: &Views, tool: &T) -> Result<Plan
         → called_at plan a ≡ called_of (T.calls_of tool.now) views.now a) }
 {
     let mut plan = Plan::empty(alloc);
-    offer_codes(&mut plan, views, tool)?;
-    offer_routines(&mut plan, views, tool)?;
+    let mut calls = ArrayVec::new();
+    offer_codes(&mut plan, views, tool, &mut calls)?;
+    offer_routines(&mut plan, views, tool, &mut calls)?;
     Ok(plan)
 }
