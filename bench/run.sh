@@ -103,7 +103,7 @@ for guest in $guests; do
 done
 
 printf '\n%-8s %-10s %10s %9s\n' tool guest superpin tool/run
-for tool in icount bcount mix blocks; do
+for tool in icount bcount mix blocks calls cache; do
     for guest in $guests; do
         read -r known _ <"$folder/$guest.2"
         for ((turn = 0; turn < turns; turn++)); do
