@@ -1,0 +1,6 @@
+//! The run of a program without a tool, cut into jobs.
+#![tactic(auto)]
+
+mod limits;
+
+pub use limits::Limits;
