@@ -1,0 +1,4 @@
+pub mod Answers
+pub mod Master
+pub mod Progress
+pub mod Turn

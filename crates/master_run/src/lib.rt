@@ -2,5 +2,6 @@
 #![tactic(auto)]
 
 mod limits;
+mod progress;
 
 pub use limits::Limits;

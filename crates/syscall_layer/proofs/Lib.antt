@@ -9,3 +9,4 @@ pub mod Rows
 pub mod Deeds
 pub mod Leaving
 pub mod Kept
+pub mod Step

@@ -1,3 +1,4 @@
 pub mod Serve
 pub mod Input
 pub mod Maps
+pub mod Step

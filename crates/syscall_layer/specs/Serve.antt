@@ -92,7 +92,7 @@ pub record FitsAndPlays (m next : Machine) (entry : CallRecord) : Type 0 where
   pub next_is : next ≡ played m entry
 
 -- what holds of the record of a call that went on, for every host
-abbrev pub LeavesPlayable : Result Served CallFault → Machine → Machine → Type 0
+abbrev pub LeavesPlayable : {E : Type 0} → Result Served E → Machine → Machine → Type 0
 LeavesPlayable (Ok (served.Went entry)) m next = FitsAndPlays m next entry
 LeavesPlayable (Ok (served.Exit status)) m next = Unit {0}
 LeavesPlayable (Err fault) m next = Unit {0}
