@@ -3,7 +3,9 @@ pub mod Told
 pub mod Faults
 pub mod Tally
 pub mod ListPacer
+pub mod EveryPacer
 pub mod Plan
 pub mod Memory
+pub mod Steady
 pub mod Real
 pub mod Whole

@@ -1,18 +1,23 @@
 //! The outside, as a program sees it: files, input, moments, three ports to write to, and a pacer
 //! that says when it is time.
 //!
-//! [`Host`] and [`Pacer`] are traits. [`MemoryHost`] and [`ListPacer`] follow a plan, and
-//! [`StdHost`] is the system.
+//! [`Host`] and [`Pacer`] are traits. [`MemoryHost`] and [`ListPacer`] follow a plan,
+//! [`SteadyHost`] never fails, [`EveryPacer`] counts, and [`StdHost`] and [`TimePacer`] are the
+//! system.
 #![tactic(auto)]
 
 mod host;
 mod memory;
 mod pacer;
 mod real;
+mod steady;
+mod timed;
 mod whole;
 
 pub use host::{Failed, Host, Port};
 pub use memory::{FaultPlan, MemoryHost};
-pub use pacer::{ListPacer, Pacer};
+pub use pacer::{EveryPacer, ListPacer, Pacer};
 pub use real::StdHost;
+pub use steady::SteadyHost;
+pub use timed::TimePacer;
 pub use whole::{MAX_FILE, ReadFault, read_whole, read_within, write_whole};

@@ -117,14 +117,14 @@ pub struct Sink {
 impl Tape {
     ghost use Rattle.sp_host.specs.Memory.{tape_left};
 
-    fn new(items: Vec<u8>) -> Tape
+    pub(crate) fn new(items: Vec<u8>) -> Tape
         ensures { tape_left result ≡ items.items }
     {
         Tape { items, at: 0 }
     }
 
     // Takes bytes from the front, at most `most` of them.
-    fn take(&mut self, most: usize, buf: &mut [u8]) -> usize
+    pub(crate) fn take(&mut self, most: usize, buf: &mut [u8]) -> usize
         requires room { 0 < length buf.old }
         requires most { 0 < most }
         ensures bound { result ≤ length buf.new }

@@ -1,5 +1,5 @@
 // When it is time: a pacer is asked, and counts what it was asked and granted.
-ghost use Rattle.std.specs.Prelude.{◌≡◌, ℕ, Bool, Option};
+ghost use Rattle.std.specs.Prelude.{◌<◌, ◌≤◌, ◌%◌, ◌==◌, ◌≡◌, ℕ, Bool, Option};
 ghost use Rattle.sp_host.specs.Told.{WhereTold};
 ghost use Rattle.sp_host.specs.Tally.{Tally, tally_after, later_answers};
 
@@ -81,6 +81,68 @@ impl Pacer for ListPacer {
         self.asked = self.asked.saturating_add(1);
         if answer {
             self.granted = self.granted.saturating_add(1);
+        }
+        answer
+    }
+}
+
+/// A pacer that answers true at each call whose number is a multiple of `every`, the first call
+/// with number 1. It tells its answers, and makes no use of the period.
+#[derive(Drop)]
+pub struct EveryPacer {
+    every: u64,
+    // the number of calls up to the next true answer, which is counted
+    left: u64,
+    period: u32,
+    asked: u64,
+    granted: u64,
+    ghost some: { 0 < left },
+    ghost within: { left ≤ every },
+}
+
+impl EveryPacer {
+    ghost use Rattle.sp_host.specs.EveryPacer.{every_period, every_tally, every_answers};
+    ghost use Rattle.std.specs.Prelude.{Some};
+
+    /// A pacer of this `every`, at least 1.
+    pub fn new(every: u64) -> EveryPacer
+        requires { 1 ≤ every }
+        ensures period { every_period result ≡ 0 }
+        ensures tally { every_tally result ≡ record { asked = 0; granted = 0 } }
+        ensures answers { every_answers result ≡ Some (λ k. k % every == 0) }
+    {
+        EveryPacer {
+            every,
+            left: every,
+            period: 0,
+            asked: 0,
+            granted: 0,
+        }
+    }
+}
+
+impl Pacer for EveryPacer {
+    ghost use Rattle.sp_host.specs.EveryPacer.{every_period, every_tally, every_answers};
+
+    ghost period_shown = { every_period };
+
+    ghost tally = { every_tally };
+
+    ghost answers = { every_answers };
+
+    fn period(&mut self, msec: u32) {
+        self.period = msec;
+    }
+
+    // It counts down, since the number of asks that it shows stands still in the end.
+    fn due(&mut self) -> bool {
+        self.asked = self.asked.saturating_add(1);
+        let answer = self.left == 1;
+        if answer {
+            self.granted = self.granted.saturating_add(1);
+            self.left = self.every;
+        } else {
+            self.left -= 1;
         }
         answer
     }

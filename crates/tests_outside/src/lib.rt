@@ -8,6 +8,8 @@ mod memory;
 #[cfg(test)]
 mod pacer;
 #[cfg(test)]
+mod steady;
+#[cfg(test)]
 mod system;
 #[cfg(test)]
 mod whole;

@@ -1,8 +1,11 @@
-// The system's files, streams and clock.
+// The system's files, streams and clocks.
 use crate::hosts::crosses;
-use sp_host::{Host, Port, ReadFault, StdHost, read_whole, read_within, write_whole};
+use sp_host::{
+    Host, Pacer, Port, ReadFault, StdHost, TimePacer, read_whole, read_within, write_whole,
+};
 use std::fs;
 use std::test::Fail;
+use std::time::{Duration, Instant};
 
 #[test]
 fn reads_files(rt: HostRuntime) -> Result<(), Fail> {
@@ -34,5 +37,32 @@ fn writes_and_tells_the_time(rt: HostRuntime) -> Result<(), Fail> {
     }
     // in 2023 and later
     assert!(rt; host.now() > 1_700_000_000_000_000_000);
+    Ok(())
+}
+
+// Whether it is time at last.
+fn is_granted(pacer: &mut TimePacer) -> bool {
+    for _ in 0..1_000_000_000 {
+        if pacer.due() {
+            return true;
+        }
+    }
+    false
+}
+
+#[test]
+fn grants_once_in_a_period(rt: HostRuntime) -> Result<(), Fail> {
+    let start = Instant::now(&rt)?;
+    let mut pacer = crosses(TimePacer::new(rt));
+    pacer.period(1);
+    for k in 0..3 {
+        assert!(rt; is_granted(&mut pacer), "period {k}");
+    }
+    assert!(rt; start.elapsed(&rt)? >= Duration::from_millis(3));
+    // 49 days
+    pacer.period(u32::MAX);
+    for k in 0..1000 {
+        assert!(rt; !pacer.due(), "ask {k}");
+    }
     Ok(())
 }
