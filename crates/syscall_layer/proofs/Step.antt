@@ -1,6 +1,6 @@
 -- A call as a step of the serial run.
 use Rattle.std.proofs.Common.{◌≡◌, ◌≢◌, ℕ, ◌+◌, List, [], ◌∷◌, ◌++◌, map, refl, sym, ap, subst, ◌∙◌}
-use Rattle.std.specs.Prelude.{Option, None, Some, Result, Ok, Err}
+use Rattle.std.specs.Prelude.{Option, None, Some, Ok, Err}
 use Rattle.std.proofs.lemmas.List.{append-nil}
 use Rattle.sp_host.specs.Told.{Told}
 use Rattle.sp_host.specs.Faults.{Caused, Faults}
@@ -154,8 +154,8 @@ marks_of (Tells at) entry m old new is after = record { written = after.written;
 marks_of (Ends status) entry m old new is after = absurd is
 
 -- the guest behind a call that was served
-pub leaves_served : (deed : Option Deed) (answer : Served) (old new : GuestState) → AnswersCall deed (Ok answer) old new → LeavesPlayable {CallFault} (Ok answer) old.machine new.machine → LeavesGuest deed (Ok answer) old new
-leaves_served None answer old new h plays = let no = h.0 in absurd (cc no)
+pub leaves_served : (deed : Option Deed) (answer : Served) (old new : GuestState) → AnswersCall deed (Ok answer) old new → LeavesPlayable {E = CallFault} (Ok answer) old.machine new.machine → LeavesGuest deed (Ok answer) old new
+leaves_served None answer old new h plays = let no = h.0 in cc
 leaves_served (Some deed) (served.Went entry) old new h plays = record {
   fits = plays.fits;
   next_is = plays.next_is;
