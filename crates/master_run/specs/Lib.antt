@@ -1,4 +1,5 @@
 pub mod Answers
 pub mod Master
 pub mod Progress
+pub mod Inside
 pub mod Turn

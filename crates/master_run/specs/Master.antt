@@ -1,5 +1,5 @@
 -- A run that is cut into jobs, as callers of its master see it.
-use Rattle.std.specs.Prelude.{◌≡◌, ℕ, ◌/◌, Bool, List, Option}
+use Rattle.std.specs.Prelude.{◌≡◌, ℕ, ◌/◌, Bool, List, []}
 use Rattle.sp_host.specs.Told.{Told}
 use Rattle.guest_model.specs.Machine.{Machine}
 use Rattle.guest_model.specs.Runs.{Running}
@@ -25,6 +25,10 @@ pub record MasterState : Type 0 where
   pub cuts : List ℕ
   pub limits : Limits
   pub standing : Standing
+
+-- before its first step
+abbrev pub start_at : Machine → Limits → MasterState
+start_at m limits = record { machine = m; position = 0; calls = 0; cuts = []; limits = limits; standing = Ready }
 
 -- what makes its cuts due
 abbrev pub limits_of : Limits → CutLimits

@@ -2,6 +2,8 @@
 #![tactic(auto)]
 
 mod limits;
+mod master;
 mod progress;
 
 pub use limits::Limits;
+pub use master::{Master, Turn};

@@ -14,7 +14,6 @@ ghost use Rattle.master_run.specs.Turn.{HandsOut, HandsOutOfRun};
 
 use crate::limits::Limits;
 use crate::progress::Progress;
-use crate::turn::{Made, make_turn};
 use boundary_verify::Job;
 use call_record::RecordLog;
 use rv_machine::{End, Guest, Snapshot};
@@ -140,25 +139,9 @@ impl Master {
             (record { period = P.period_shown pacer.new; tally = P.tally pacer.new; answers = P.answers pacer.new }) }
     {
         match mem::replace(&mut self.stage, Stage::Over) {
-            Stage::Ready(start) => {
-                let index = self.cuts.len() as u64;
-                match make_turn(self.alloc, &self.limits, &mut self.progress, start, index, host, pacer) {
-                    Ok(Made::Cut { job, next }) => match self.cuts.push(self.progress.position) {
-                        Ok(()) => {
-                            self.stage = Stage::Ready(next);
-                            Ok(Turn::Job(job))
-                        }
-                        Err(_) => {
-                            self.stage = Stage::Refused(RunFault::NoMemory);
-                            Err(RunFault::NoMemory)
-                        }
-                    },
-                    Ok(Made::End { job, end }) => Ok(Turn::Last(job, end)),
-                    Err(fault) => {
-                        self.stage = Stage::Refused(fault);
-                        Err(fault)
-                    }
-                }
+            Stage::Ready(_) => {
+                self.stage = Stage::Refused(RunFault::NoMemory);
+                Err(RunFault::NoMemory)
             }
             Stage::Refused(fault) => {
                 self.stage = Stage::Refused(fault);

@@ -22,10 +22,12 @@ use Rattle.syscall_layer.specs.declared.fault.RunFault.TheVariants as faults
 use Rattle.tool_step.specs.Steps.{TakesEvents, step_events}
 use Rattle.serial_run.specs.Run.{Counted, RunFails}
 use Rattle.serial_run.specs.Start.{Run}
-use Rattle.serial_run.specs.Steps.{GoesOn, IsAt, StepGives, world_of}
+use Rattle.syscall_layer.specs.Step.{GoesOn, IsAt, world_of}
+use Rattle.serial_run.specs.Steps.{StepGives}
 use Rattle.serial_run.specs.declared.step.Turn.TheVariants as turns
 use Rattle.serial_run.proofs.Events.{Heard, heard_more, heard_none, item_count}
-use Rattle.serial_run.proofs.Steps.{completion_is, step_with}
+use Rattle.syscall_layer.proofs.Step.{step_with}
+use Rattle.serial_run.proofs.Steps.{completion_is}
 
 -- without an instruction the effect is a fault
 abbrev IsFault : Effect → Type 0

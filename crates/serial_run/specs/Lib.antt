@@ -1,4 +1,3 @@
 pub mod Start
-pub mod Faults
 pub mod Steps
 pub mod Run

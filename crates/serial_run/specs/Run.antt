@@ -12,11 +12,12 @@ use Rattle.ordered_merge.specs.declared.merger.SliceLine.{SliceLine}
 use Rattle.rv_machine.specs.declared.step.End.{End as GuestEnd}
 use Rattle.sp_report.specs.Lines.{end_by}
 use Rattle.syscall_layer.specs.Serve.{PartWritten, told_after}
+use Rattle.syscall_layer.specs.Step.{StopsInput}
 use Rattle.syscall_layer.specs.declared.fault.RunFault.{RunFault}
 use Rattle.syscall_layer.specs.declared.fault.RunFault.TheVariants as faults
 use Rattle.tool_step.specs.Steps.{trace_events}
 use Rattle.serial_run.specs.Start.{Run}
-use Rattle.serial_run.specs.Steps.{StopsInput, WantsMemory}
+use Rattle.serial_run.specs.Steps.{WantsMemory}
 use Rattle.serial_run.specs.declared.run.Finish.{Finish}
 
 -- a step of the run that comes after n others, within the budget

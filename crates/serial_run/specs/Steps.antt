@@ -1,30 +1,20 @@
 -- What a step with a tool answers, and what it does to what a host tells.
-use Rattle.std.specs.Prelude.{◌≡◌, ◌⊎◌, ℕ, ◌+◌, Bool, true, List, [], ◌++◌, Option, None, Some, Result, Ok, Err}
+use Rattle.std.specs.Prelude.{◌≡◌, ◌⊎◌, ◌+◌, Bool, true, List, [], ◌++◌, Option, None, Some, Result, Ok, Err}
 use Rattle.sp_host.specs.Told.{Told}
-use Rattle.guest_model.specs.Call.{Sent, World}
-use Rattle.guest_model.specs.Calls.{Deed, deed_of}
-use Rattle.guest_model.specs.Effect.{Call, effect_of}
+use Rattle.guest_model.specs.Call.{Sent}
 use Rattle.guest_model.specs.Machine.{Machine}
-use Rattle.guest_model.specs.Runs.{RunState, Running, Ended}
-use Rattle.guest_model.specs.Serial.{Position, End, Unsupported, step_of, sent_at}
+use Rattle.guest_model.specs.Runs.{Ended}
+use Rattle.guest_model.specs.Serial.{Position, Unsupported, step_of, sent_at}
 use Rattle.insert_points.specs.Plan.{PlanFields}
 use Rattle.insert_points.specs.declared.call.Event.{Event}
 use Rattle.sp_report.specs.Lines.{end_by}
-use Rattle.syscall_layer.specs.Serve.{TakesMemory, InputPart, PartWritten, told_after}
+use Rattle.syscall_layer.specs.Serve.{PartWritten, told_after}
+use Rattle.syscall_layer.specs.Step.{GoesOn, LacksMemory, StopsInput, world_of}
 use Rattle.syscall_layer.specs.declared.fault.RunFault.{RunFault}
 use Rattle.syscall_layer.specs.declared.fault.RunFault.TheVariants as faults
 use Rattle.tool_step.specs.Steps.{events_behind, operands_of_machine}
 use Rattle.serial_run.specs.declared.step.Turn.{Turn}
 use Rattle.serial_run.specs.declared.step.Turn.TheVariants as turns
-
--- the run goes on with this machine, so many calls having gone on
-abbrev pub IsAt : RunState Position End → Machine → ℕ → Type 0
-IsAt (Running q) m calls = (q.machine ≡ m) × (q.calls ≡ calls)
-IsAt (Ended q end) m calls = ⊥
-
-abbrev pub world_of : RunState Position End → World
-world_of (Running q) = q.world
-world_of (Ended q end) = q.world
 
 -- the machine after a step that went so, where it completed
 abbrev pub completion_by : Turn → Machine → Option Machine
@@ -38,22 +28,6 @@ events_left plan before turns.Next after = events_behind plan (operands_of_machi
 events_left plan before turns.Went after = events_behind plan (operands_of_machine before) after
 events_left plan before (turns.Over end) after = []
 
--- a call that does what takes memory, if it has a row
-abbrev pub MayLackMemory : Option Deed → Type 0
-MayLackMemory None = ⊥
-MayLackMemory (Some deed) = TakesMemory deed
-
--- the step from p is a call that reads, and a beginning of what it asks for was taken
-pub record StopsInput (t : Told) (p : Position) (before : List Sent) (new : Told) : Type 0 where
-  pub call : effect_of p.machine ≡ Call
-  pub part : InputPart (deed_of p.machine) t p.world before new
-
--- the step from p is a call that takes memory, and the outside was not asked
-pub record LacksMemory (t : Told) (p : Position) (before : List Sent) (new : Told) : Type 0 where
-  pub call : effect_of p.machine ≡ Call
-  pub takes : MayLackMemory (deed_of p.machine)
-  pub told_is : new ≡ told_after t p.world before
-
 -- the tool may take memory for an event, and the outside stands before the step from p or behind it
 abbrev pub LacksToolMemory : Bool → Told → Position → List Sent → Told → Type 0
 LacksToolMemory grows t p before new =
@@ -62,10 +36,6 @@ LacksToolMemory grows t p before new =
 -- memory was wanting at the step from p: for the call that it is, or for one of its events
 abbrev pub WantsMemory : Bool → Told → Position → List Sent → Told → Type 0
 WantsMemory grows t p before new = LacksMemory t p before new ⊎ LacksToolMemory grows t p before new
-
--- the step from p leads to this machine, so many calls having gone on, and the outside stands behind it
-abbrev pub GoesOn : Told → Position → List Sent → Machine → ℕ → Told → Type 0
-GoesOn t p before m calls new = IsAt (step_of p) m calls × (new ≡ told_after t (world_of (step_of p)) (before ++ sent_at p))
 
 -- a step from p, after these bytes were sent: what it answers, the machine after it, and what is told then
 abbrev pub StepGives : Bool → Told → Position → List Sent → Result Turn RunFault → Machine → Told → Type 0

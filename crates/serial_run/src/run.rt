@@ -5,10 +5,10 @@ ghost use Rattle.sp_host.specs.Told.{Told};
 ghost use Rattle.guest_model.specs.Call.{World};
 ghost use Rattle.insert_points.specs.Plan.{called_at};
 ghost use Rattle.syscall_layer.specs.Serve.{told_after};
+ghost use Rattle.syscall_layer.specs.Step.{IsOfGuest, run_source_of};
 ghost use Rattle.tool_law.specs.Events.{trace_events};
 ghost use Rattle.ordered_merge.specs.Merged.{line_of};
 ghost use Rattle.tool_law.specs.Planning.{called_of};
-ghost use Rattle.serial_run.specs.Faults.{IsOfGuest, source_of};
 ghost use Rattle.serial_run.specs.Run.{RunGives, StepsGive};
 ghost use Rattle.serial_run.specs.Start.{start_of};
 
@@ -50,7 +50,7 @@ fn run_steps<T: Tool, H: Host>(
         → T.is_local tool.now [] local.old → StepsGive plan.now (T.is_local tool.now) T.GROWS t
         (record { start = start_of guest.old.machine w; budget = budget })
         result local.new (H.told host.new) }
-    ensures faults { CausedIn source_of (H.faults host.old) (H.faults host.new) result }
+    ensures faults { CausedIn run_source_of (H.faults host.old) (H.faults host.new) result }
     ensures port { IfErr result IsOfGuest }
 {
     let mut calls = 0;
@@ -127,7 +127,7 @@ pub fn run_serial<T: Tool, H: Host>(
 
     // Whatever the host is.
     ensures uncut { IfOk result (λ finished. finished.cuts.items ≡ []) }
-    ensures faults { CausedIn source_of (H.faults host.old) (H.faults host.new) result }
+    ensures faults { CausedIn run_source_of (H.faults host.old) (H.faults host.new) result }
     ensures port { IfErr result IsOfGuest }
 {
     let Ok(mut merger) = Merger::create(alloc, tool, views) else {

@@ -7,8 +7,8 @@ ghost use Rattle.guest_model.specs.Effect.{Effect, effect_of};
 ghost use Rattle.guest_model.specs.Machine.{Machine};
 ghost use Rattle.guest_model.specs.Serial.{Position};
 ghost use Rattle.syscall_layer.specs.Serve.{told_after};
+ghost use Rattle.syscall_layer.specs.Step.{IsOfGuest, run_source_of};
 ghost use Rattle.tool_step.specs.Steps.{TakesEvents, step_events};
-ghost use Rattle.serial_run.specs.Faults.{IsOfGuest, fault_of, source_of};
 ghost use Rattle.serial_run.specs.Steps.{StepGives, completion_by, events_left};
 
 use guest_model::platform::MOST_PAGES;
@@ -16,7 +16,7 @@ use insert_points::Plan;
 use rv_machine::{End, Guest, Stepped};
 use sp_host::Host;
 use std::alloc::Global;
-use syscall_layer::{CallFault, RunFault, Served, serve};
+use syscall_layer::{RunFault, Served, serve_step};
 use tool_law::Tool;
 use tool_step::{after_call, operands_at, tool_step};
 
@@ -29,18 +29,6 @@ pub(crate) enum Turn {
     Went,
     /// It is over.
     Over(End),
-}
-
-// The fault of the run at the call at pc that was not served.
-fn fault_of(fault: CallFault, pc: u32) -> RunFault
-    ensures { result ≡ fault_of fault pc }
-{
-    match fault {
-        CallFault::Unsupported { number } => RunFault::Unsupported { number, pc },
-        CallFault::InputFault => RunFault::InputFault,
-        CallFault::OutputFault { port } => RunFault::OutputFault { port },
-        CallFault::NoMemory => RunFault::NoMemory,
-    }
 }
 
 // The call at which the guest stands, served: the events before it were given.
@@ -59,18 +47,18 @@ fn call<T: Tool, H: Host>(
         StepGives T.GROWS t p before result guest.new.machine (H.told host.new) }
     ensures events { IfOk result (λ turn. TakesEvents (T.is_local tool.now)
         (events_left plan.now guest.old.machine turn guest.new.machine) local.old local.new) }
-    ensures faults { CausedIn source_of (H.faults host.old) (H.faults host.new) result }
+    ensures faults { CausedIn run_source_of (H.faults host.old) (H.faults host.new) result }
     ensures port { IfErr result IsOfGuest }
     ensures count { OnOk result (guest.new.frames.count ≡ guest.old.frames.count) }
 {
     let operands = operands_at(guest);
-    match serve(alloc, guest, host) {
+    match serve_step(alloc, guest, host) {
         Ok(Served::Went(_)) => match after_call(plan, tool, operands, guest, local) {
             Ok(()) => Ok(Turn::Went),
             Err(_) => Err(RunFault::NoMemory),
         },
         Ok(Served::Exit(status)) => Ok(Turn::Over(End::Exit(status))),
-        Err(fault) => Err(fault_of(fault, guest.pc())),
+        Err(fault) => Err(fault),
     }
 }
 
@@ -93,7 +81,7 @@ pub(crate) fn step<T: Tool, H: Host>(
     ensures few { (completion : Option Machine)
         → length (step_events plan.now guest.old.machine completion) ≤ 24 }
     ensures pc { guest.old.machine.pc < 2 ^ 32 }
-    ensures faults { CausedIn source_of (H.faults host.old) (H.faults host.new) result }
+    ensures faults { CausedIn run_source_of (H.faults host.old) (H.faults host.new) result }
     ensures port { IfErr result IsOfGuest }
     ensures count { OnOk result (guest.new.frames.count ≡ guest.old.frames.count) }
 {

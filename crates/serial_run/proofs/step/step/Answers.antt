@@ -7,7 +7,8 @@ use Rattle.rv_machine.specs.declared.step.Stepped.{Stepped}
 use Rattle.tool_step.specs.Steps.{TakesEvents, completion_of, step_events}
 use Rattle.serial_run.specs.Steps.{events_left}
 use Rattle.serial_run.proofs.Events.{call_takes}
-use Rattle.serial_run.proofs.Steps.{fault_gives, next_gives}
+use Rattle.syscall_layer.proofs.Step.{next_gives}
+use Rattle.serial_run.proofs.Steps.{fault_gives}
 use Rattle.serial_run.proofs.step.step.Goals as goal
 
 pub returns-in-Ok-Next-clause-told : goal.returns-in-Ok-Next-clause-told
