@@ -3,3 +3,4 @@ pub mod View
 pub mod Instruction
 pub mod Answer
 pub mod Lines
+pub mod Slices

@@ -10,8 +10,12 @@ use Rattle.rv_machine.specs.Step.{kind_number}
 use Rattle.rv_machine.specs.declared.step.End.{End as GuestEnd}
 use Rattle.rv_machine.specs.declared.step.End.TheVariants as ends
 use Rattle.sp_report.specs.Digits.{address_text}
+use Rattle.sp_report.specs.declared.answer.OptionName.{OptionName}
+use Rattle.sp_report.specs.declared.answer.OptionName.TheVariants as option
 use Rattle.sp_report.specs.declared.answer.Refusal.{Refusal}
 use Rattle.sp_report.specs.declared.answer.Refusal.TheVariants as refusals
+use Rattle.sp_report.specs.declared.answer.UsageKind.{UsageKind}
+use Rattle.sp_report.specs.declared.answer.UsageKind.TheVariants.{NoCommand, UnknownCommand, Form, BadValue}
 
 -- how a run ends, as a guest tells it
 abbrev pub end_by : GuestEnd → End
@@ -50,8 +54,29 @@ elf_text elf.BadEntry = codes "16 BadEntry"
 elf_text elf.BadSymbols = codes "17 BadSymbols"
 elf_text elf.NoMemory = codes "18 NoMemory"
 
+-- an option as it is written, and the number of `demo`
+abbrev pub option_text : OptionName → List ℕ
+option_text option.By = codes "--by"
+option_text option.Tool = codes "--tool"
+option_text option.Budget = codes "--budget"
+option_text option.Limit = codes "--limit"
+option_text option.Poll = codes "--poll"
+option_text option.Msec = codes "--msec"
+option_text option.Records = codes "--records"
+option_text option.Frames = codes "--frames"
+option_text option.Workers = codes "--workers"
+option_text option.N = codes "N"
+
+-- why words are no command
+abbrev pub usage_text : UsageKind → List ℕ
+usage_text NoCommand = codes "no command"
+usage_text UnknownCommand = codes "unknown command"
+usage_text Form = codes "form"
+usage_text (BadValue name) = codes "value of " ++ option_text name
+
 -- the line of a refusal
 abbrev pub refusal_line : Refusal → List ℕ
+refusal_line (refusals.Usage kind) = codes "superpin: 1 usage " ++ (usage_text kind ++ codes "\n")
 refusal_line refusals.FileFault = codes "superpin: 2 file fault\n"
 refusal_line refusals.FileTooLarge = codes "superpin: 3 file too large\n"
 refusal_line (refusals.Elf fault) = codes "superpin: 4 elf " ++ (elf_text fault ++ codes "\n")

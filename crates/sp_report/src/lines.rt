@@ -1,10 +1,10 @@
 // The end line of a run, and the lines of refusals.
 ghost use Rattle.std.specs.Prelude.{◌≡◌, ◌+◌, ◌≤◌, ◌++◌, IfOk, OnOk, codes, decimal, length};
 ghost use Rattle.sp_report.specs.Digits.{address_text};
-ghost use Rattle.sp_report.specs.Lines.{elf_text, end_by, end_text, port_name};
+ghost use Rattle.sp_report.specs.Lines.{elf_text, end_by, end_text, option_text, port_name, usage_text};
 ghost use Rattle.sp_report.specs.Lines.{refusal_line as line_of};
 
-use crate::answer::Refusal;
+use crate::answer::{OptionName, Refusal, UsageKind};
 use crate::digits::{eight_digits, push_address};
 use arrayvec::ArrayVec;
 use elf_load::ElfFault;
@@ -158,11 +158,45 @@ fn numbered(first: &[u8], n: u64, last: &[u8]) -> ArrayVec<u8, 96>
     joined(first, buffer.format(n).as_bytes(), last)
 }
 
+// An option as it is written, and the number of `demo`.
+fn option_text(option: OptionName) -> &'static str
+    ensures value { result.now ≡ option_text option }
+    ensures within { length result.now ≤ 9 }
+{
+    match option {
+        OptionName::By => "--by",
+        OptionName::Tool => "--tool",
+        OptionName::Budget => "--budget",
+        OptionName::Limit => "--limit",
+        OptionName::Poll => "--poll",
+        OptionName::Msec => "--msec",
+        OptionName::Records => "--records",
+        OptionName::Frames => "--frames",
+        OptionName::Workers => "--workers",
+        OptionName::N => "N",
+    }
+}
+
+// Why words are no command.
+fn usage_text(kind: UsageKind) -> ArrayVec<u8, 40>
+    ensures { result.items ≡ usage_text kind }
+{
+    match kind {
+        UsageKind::NoCommand => plain(b"no command"),
+        UsageKind::UnknownCommand => plain(b"unknown command"),
+        UsageKind::Form => plain(b"form"),
+        UsageKind::BadValue { option } => {
+            joined(b"value of ", option_text(option).as_bytes(), b"")
+        }
+    }
+}
+
 /// The line of a refusal, with its line end; `ReportFault` has none. It takes no memory.
 pub fn refusal_line(refusal: &Refusal) -> ArrayVec<u8, 96>
     ensures { result.items ≡ line_of refusal.now }
 {
     match refusal {
+        Refusal::Usage(kind) => joined(b"superpin: 1 usage ", usage_text(*kind).as_slice(), b"\n"),
         Refusal::FileFault => plain(b"superpin: 2 file fault\n"),
         Refusal::FileTooLarge => plain(b"superpin: 3 file too large\n"),
         Refusal::Elf(fault) => joined(b"superpin: 4 elf ", elf_text(fault).as_slice(), b"\n"),

@@ -1,11 +1,85 @@
 // The end line of a run, and the lines of refusals.
 use elf_load::ElfFault;
+use ordered_merge::SliceLine;
 use rv_machine::{End, FaultKind};
 use sp_host::Port;
-use sp_report::{Answer, Cuts, Refusal, end_line, exit_code, refusal_line};
+use sp_report::{
+    Answer, Cuts, Lines, OptionName, Refusal, UsageKind, end_line, exit_code, refusal_line,
+    slice_lines,
+};
 use std::test::Fail;
+use tool_law::Hits;
 
-const LINES: [(Refusal, &str); 31] = [
+const LINES: [(Refusal, &str); 44] = [
+    (
+        Refusal::Usage(UsageKind::NoCommand),
+        "superpin: 1 usage no command\n",
+    ),
+    (
+        Refusal::Usage(UsageKind::UnknownCommand),
+        "superpin: 1 usage unknown command\n",
+    ),
+    (Refusal::Usage(UsageKind::Form), "superpin: 1 usage form\n"),
+    (
+        Refusal::Usage(UsageKind::BadValue {
+            option: OptionName::By,
+        }),
+        "superpin: 1 usage value of --by\n",
+    ),
+    (
+        Refusal::Usage(UsageKind::BadValue {
+            option: OptionName::Tool,
+        }),
+        "superpin: 1 usage value of --tool\n",
+    ),
+    (
+        Refusal::Usage(UsageKind::BadValue {
+            option: OptionName::Budget,
+        }),
+        "superpin: 1 usage value of --budget\n",
+    ),
+    (
+        Refusal::Usage(UsageKind::BadValue {
+            option: OptionName::Limit,
+        }),
+        "superpin: 1 usage value of --limit\n",
+    ),
+    (
+        Refusal::Usage(UsageKind::BadValue {
+            option: OptionName::Poll,
+        }),
+        "superpin: 1 usage value of --poll\n",
+    ),
+    (
+        Refusal::Usage(UsageKind::BadValue {
+            option: OptionName::Msec,
+        }),
+        "superpin: 1 usage value of --msec\n",
+    ),
+    (
+        Refusal::Usage(UsageKind::BadValue {
+            option: OptionName::Records,
+        }),
+        "superpin: 1 usage value of --records\n",
+    ),
+    (
+        Refusal::Usage(UsageKind::BadValue {
+            option: OptionName::Frames,
+        }),
+        "superpin: 1 usage value of --frames\n",
+    ),
+    (
+        Refusal::Usage(UsageKind::BadValue {
+            option: OptionName::Workers,
+        }),
+        "superpin: 1 usage value of --workers\n",
+    ),
+    (
+        Refusal::Usage(UsageKind::BadValue {
+            option: OptionName::N,
+        }),
+        "superpin: 1 usage value of N\n",
+    ),
     (Refusal::FileFault, "superpin: 2 file fault\n"),
     (Refusal::FileTooLarge, "superpin: 3 file too large\n"),
     (
@@ -194,8 +268,75 @@ fn of_each_end(rt: HostRuntime) -> Result<(), Fail> {
         let answer = Answer::Ended {
             status: row.end.status(),
             cuts: Cuts::none(alloc),
+            lines: Lines::none(alloc),
         };
         assert!(rt; exit_code(&answer) == row.status, "row {k}");
     }
+    Ok(())
+}
+
+// A line of a serial run, one of a slice, and the largest.
+const SLICES: [SliceLine; 3] = [
+    SliceLine {
+        steps: 24,
+        calls: 0,
+        hits: Hits {
+            quick: 0,
+            registers: 0,
+            stack: 0,
+            whole: 0,
+        },
+    },
+    SliceLine {
+        steps: 7,
+        calls: 3,
+        hits: Hits {
+            quick: 5,
+            registers: 4,
+            stack: 2,
+            whole: 1,
+        },
+    },
+    SliceLine {
+        steps: 1_099_511_627_776,
+        calls: 65_536,
+        hits: Hits {
+            quick: u64::MAX,
+            registers: 100,
+            stack: 10,
+            whole: 9,
+        },
+    },
+];
+
+const SLICE_LINES: &str = "slice 0 24 0 0 0 0 0\n\
+slice 1 7 3 5 4 2 1\n\
+slice 2 1099511627776 65536 18446744073709551615 100 10 9\n";
+
+#[test]
+fn of_slices(rt: HostRuntime) -> Result<(), Fail> {
+    let alloc = rt.alloc();
+    assert!(rt; slice_lines(alloc, &[])?.is_empty());
+    let text = slice_lines(alloc, &SLICES)?;
+    assert!(rt; text.as_slice() == SLICE_LINES.as_bytes());
+    Ok(())
+}
+
+// What an answer holds is what it was made of.
+#[test]
+fn of_an_answer(rt: HostRuntime) -> Result<(), Fail> {
+    let alloc = rt.alloc();
+    let mut positions = Vec::new(alloc);
+    positions.push(9)?;
+    positions.push(23)?;
+    let cuts = Cuts::new(positions);
+    assert!(rt; cuts.positions() == [9, 23].as_slice());
+    let mut slices = Vec::new(alloc);
+    slices.push(SLICES[1])?;
+    let lines = Lines::new(slices);
+    assert!(rt; lines.lines().len() == 1 && lines.lines()[0].steps == 7);
+    let slices = lines.into_vec();
+    assert!(rt; slices.len() == 1 && slices[0].calls == 3);
+    assert!(rt; Lines::none(alloc).lines().is_empty());
     Ok(())
 }
