@@ -2,7 +2,8 @@
 use Rattle.std.specs.Prelude.{◌≡◌, ℕ, ◌≤◌, List, [], length}
 use Rattle.guest_mem.specs.Memory.{all_bytes, free_frames}
 use Rattle.rv_machine.specs.Snapshot.{SnapshotState}
-use Rattle.master_run.specs.Master.{Standing}
+use Rattle.syscall_layer.specs.Step.{IsOfGuest}
+use Rattle.master_run.specs.Master.{MasterState, Standing}
 use Rattle.master_run.specs.Master as seen
 use Rattle.master_run.specs.Progress.{IsOpen}
 use Rattle.master_run.specs.declared.limits.Limits.{Limits}
@@ -26,4 +27,15 @@ pub record IsAtStart (limits : Limits) (l : Progress) (start : SnapshotState) : 
 abbrev pub IsMaster : Limits → Progress → List ℕ → Stage → Type 0
 IsMaster limits l cuts (Ready start) = IsAtStart limits l start × (length cuts ≤ l.position)
 IsMaster limits l cuts Over = Unit {0}
-IsMaster limits l cuts (Refused fault) = Unit {0}
+IsMaster limits l cuts (Refused fault) = IsOfGuest fault
+
+-- what callers see of it
+abbrev pub seen_of : Limits → Progress → List ℕ → Stage → MasterState
+seen_of limits l cuts stage = record {
+  machine = l.guest.machine;
+  position = l.position;
+  calls = l.calls;
+  cuts = cuts;
+  limits = limits;
+  standing = standing_of stage;
+}

@@ -4,6 +4,7 @@
 mod limits;
 mod master;
 mod progress;
+mod turn;
 
 pub use limits::Limits;
 pub use master::{Master, Turn};

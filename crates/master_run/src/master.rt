@@ -14,6 +14,7 @@ ghost use Rattle.master_run.specs.Turn.{HandsOut, HandsOutOfRun};
 
 use crate::limits::Limits;
 use crate::progress::Progress;
+use crate::turn::make_turn;
 use boundary_verify::Job;
 use call_record::RecordLog;
 use rv_machine::{End, Guest, Snapshot};
@@ -54,19 +55,16 @@ pub struct Master {
 }
 
 impl Model for Master {
-    ghost use Rattle.master_run.specs.Inside.{IsMaster, standing_of};
+    ghost use Rattle.std.specs.Coded.{codes};
+    ghost use Rattle.guest_model.specs.Machine.{machine_code};
+    ghost use Rattle.master_run.specs.Inside.{IsMaster, seen_of};
     ghost use Rattle.master_run.specs.Master.{MasterState};
 
     ghost Value = { MasterState };
 
-    ghost view = { λ m. record {
-      machine = m.progress.guest.machine;
-      position = m.progress.position;
-      calls = m.progress.calls;
-      cuts = m.cuts.items;
-      limits = m.limits;
-      standing = standing_of m.stage;
-    } };
+    ghost coded = { Prim.hlevel (codes, machine_code) };
+
+    ghost view = { λ m. seen_of m.limits m.progress m.cuts.items m.stage };
 
     ghost invariant = { λ m. IsMaster m.limits m.progress m.cuts.items m.stage };
 }
@@ -139,9 +137,18 @@ impl Master {
             (record { period = P.period_shown pacer.new; tally = P.tally pacer.new; answers = P.answers pacer.new }) }
     {
         match mem::replace(&mut self.stage, Stage::Over) {
-            Stage::Ready(_) => {
-                self.stage = Stage::Refused(RunFault::NoMemory);
-                Err(RunFault::NoMemory)
+            Stage::Ready(start) => {
+                let (stage, turn) = make_turn(
+                    self.alloc,
+                    &self.limits,
+                    &mut self.progress,
+                    &mut self.cuts,
+                    start,
+                    host,
+                    pacer,
+                );
+                self.stage = stage;
+                turn
             }
             Stage::Refused(fault) => {
                 self.stage = Stage::Refused(fault);

@@ -1,0 +1,21 @@
+use Rattle.std.proofs.Common.{subst, sym}
+use Rattle.sp_host.specs.Told.{Told}
+use Rattle.master_run.proofs.Begins.{hands_free, standing_free}
+use Rattle.master_run.specs.Answers.{PacerState}
+use Rattle.master_run.specs.Inside.{seen_of}
+use Rattle.master_run.specs.Master.{MasterState, HasRunTo, Over}
+use Rattle.master_run.specs.Turn.{HandsOutOfRun}
+use Rattle.master_run.proofs.master.Master.next_job.Goals as goal
+
+pub returns-in-Ready-clause-told : goal.returns-in-Ready-clause-told
+returns-in-Ready-clause-told g c t p first ready h =
+    let told : Told = g.H.Host.told c.args.host.now in
+    let now : PacerState = record { period = g.P.Pacer.period_shown c.args.pacer.now; tally = g.P.Pacer.tally c.args.pacer.now; answers = g.P.Pacer.answers c.args.pacer.now } in
+    let m : MasterState = seen_of c.self.inside.limits c.self.inside.progress c.self.inside.cuts.items c.self.inside.stage in
+    let later : MasterState = seen_of c.self.inside.limits c.make_turn-stage.new.progress c.make_turn-stage.new.cuts.items c.make_turn-stage.result.0 in
+    let told_now : Told = g.H.Host.told c.make_turn-stage.new.host in
+    let shown : PacerState = record { period = g.P.Pacer.period_shown c.make_turn-stage.new.pacer; tally = g.P.Pacer.tally c.make_turn-stage.new.pacer; answers = g.P.Pacer.answers c.make_turn-stage.new.pacer } in
+    let stands : HasRunTo t p first m told now = subst (λ (k : MasterState). HasRunTo t p first k told now) (sym c.self.view_is) h in
+    let hands = c.make_turn-stage.ensures.told t p first (standing_free t p first m Over told now stands) in
+    subst (λ (k : MasterState). HandsOutOfRun t p first k c.make_turn-stage.result.1 later told_now shown) c.self.view_is
+    (hands_free t p first m Over c.make_turn-stage.result.1 later told_now shown hands)
