@@ -1,1 +1,4 @@
 pub mod Begins
+pub mod Stretch
+pub mod Advance
+pub mod Telling

@@ -63,9 +63,9 @@ impl Progress {
         ensures faults { CausedIn run_source_of (H.faults host.old) (H.faults host.new) result }
         ensures port { IfErr result IsOfGuest }
     {
-        match serve_step(alloc, &mut self.guest, host)? {
-            Served::Exit(status) => Ok(Some(End::Exit(status))),
-            Served::Went(record) => {
+        match serve_step(alloc, &mut self.guest, host) {
+            Ok(Served::Exit(status)) => Ok(Some(End::Exit(status))),
+            Ok(Served::Went(record)) => {
                 self.position += 1;
                 self.calls += 1;
                 self.until_poll -= 1;
@@ -74,6 +74,7 @@ impl Progress {
                     Err(_) => Err(RunFault::NoMemory),
                 }
             }
+            Err(fault) => Err(fault),
         }
     }
 
