@@ -86,7 +86,7 @@ plays_along : (script : Script) (start : Spot) (k n : ℕ) (old new : GuestState
     → new.frames.written ≡ marked_for_all old.frames.written (stored_along n old.machine) → PlaysTo script start (k + n) new calls
 plays_along script start k n old new calls before leads marks =
     let c : Carries (play_step script) with_machine (written_at script) (λ h. stored_by (effect_of h)) (play_goes script) (play_writes script) (Running start) k n (spot old.machine calls) old.machine new.machine =
-        carries (play_step script) with_machine (written_at script) (λ h. stored_by (effect_of h)) (play_goes script) (play_writes script) (Running start) k n (spot old.machine calls) old.machine new.machine before.there leads in
+    carries (play_step script) with_machine (written_at script) (λ h. stored_by (effect_of h)) (play_goes script) (play_writes script) (Running start) k n (spot old.machine calls) old.machine new.machine before.there leads in
     record {
       there = c.there;
       fits = λ j lt. by j (cases_lt j k) lt;

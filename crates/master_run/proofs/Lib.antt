@@ -2,3 +2,5 @@ pub mod Begins
 pub mod Stretch
 pub mod Advance
 pub mod Telling
+pub mod Full
+pub mod Onwards

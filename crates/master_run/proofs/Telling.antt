@@ -123,12 +123,12 @@ module _ (t : Told) (p : Position) (b : ℕ) where
       let q_is : q ≡ at_machine q m = ap (at_machine q) runs.machine in
       let last = position_at b p in
       let sends : Carries step_of at_machine sent_at (λ (h : Machine). []) run_goes run_sends (Running p) old.position n q m next =
-          carries step_of at_machine sent_at (λ (h : Machine). []) run_goes run_sends (Running p) old.position n q m next (runs.stands ∙ ap Running q_is) leads in
+      carries step_of at_machine sent_at (λ (h : Machine). []) run_goes run_sends (Running p) old.position n q m next (runs.stands ∙ ap Running q_is) leads in
       let since = since_cut old told runs behind ∙ ap Running q_is in
       let records : Carries step_of at_machine entry_at (λ (h : Machine). []) run_goes run_records (Running last) (old.position - b) n q m next =
-          carries step_of at_machine entry_at (λ (h : Machine). []) run_goes run_records (Running last) (old.position - b) n q m next since leads in
+      carries step_of at_machine entry_at (λ (h : Machine). []) run_goes run_records (Running last) (old.position - b) n q m next since leads in
       let writes : Carries step_of at_machine writes_at (λ (h : Machine). stored_by (effect_of h)) run_goes run_writes (Running last) (old.position - b) n q m next =
-          carries step_of at_machine writes_at (λ (h : Machine). stored_by (effect_of h)) run_goes run_writes (Running last) (old.position - b) n q m next since leads in
+      carries step_of at_machine writes_at (λ (h : Machine). stored_by (effect_of h)) run_goes run_writes (Running last) (old.position - b) n q m next since leads in
       let steps : old.position - b + n ≡ new.position - b = omega (arith, more, behind) in
       record {
         position = at_machine q next;

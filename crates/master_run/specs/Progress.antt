@@ -119,7 +119,7 @@ StandsAtEnd (Signal kind pc) g = effect_of g.machine ≡ Effect.Fault (kind_numb
 
 -- a call can be served: one step more is counted
 pub record IsAtCall (l : Progress) : Type 0 where
-  pub room : 31 ≤ l.guest.frames.free
+  pub room : count_marked l.guest.frames.written + 32 ≤ l.guest.frames.count
   pub asked : 0 < l.until_poll
   pub position : l.position < 2 ^ 40
   pub calls : l.calls ≤ l.position
@@ -148,6 +148,7 @@ pub record Advances (old new : Progress) : Type 0 where
 pub record RunsOn (limits : Limits) (old new : Progress) (answer : Stepped) : Type 0 where
   pub later : old.position ≤ new.position
   pub steps : ℕ
+  pub some : 0 < steps
   pub ran : HasRun steps (limits.frames - 32) old.guest new.guest (record { completed = new.position - old.position; last = answer })
   pub few : steps ≤ old.until_poll
   pub within : old.position + steps ≤ limits.budget

@@ -1,11 +1,12 @@
 // The run since the last cut: without a tool, its calls recorded.
-ghost use Rattle.std.specs.Prelude.{◌≡◌, ◌<◌, ◌≤◌, ◌↔◌, false, ℕ, IfErr, IfOk, OnOk};
+ghost use Rattle.std.specs.Prelude.{◌≡◌, ◌+◌, ◌<◌, ◌≤◌, ◌↔◌, false, ℕ, IfErr, IfOk, OnOk};
+ghost use Rattle.cow_pages.specs.Marks.{count_marked};
 ghost use Rattle.sp_host.specs.Faults.{CausedIn};
 ghost use Rattle.sp_host.specs.Told.{Told};
 ghost use Rattle.guest_model.specs.Effect.{Effect, effect_of};
 ghost use Rattle.guest_model.specs.Serial.{Position};
 ghost use Rattle.syscall_layer.specs.Step.{IsOfGuest, run_source_of};
-ghost use Rattle.master_run.specs.Progress.{Advances, CallsOrEnds, EndsOrGoesOn, IsAtCall, IsBelow, IsOpen, IsSameButPoll, Leads, LeadsTo, Polls, RunsOn, RunsTo};
+ghost use Rattle.master_run.specs.Progress.{Advances, CallsOrEnds, EndsOrGoesOn, IsAtCall, IsBelow, IsOpen, IsSameButPoll, Leads, LeadsTo, Polls, RunsOn, RunsTo, tested_to};
 
 use crate::limits::Limits;
 use call_record::RecordLog;
@@ -34,6 +35,13 @@ pub(crate) struct Progress {
     pub(crate) log: RecordLog,
 }
 
+// How many frames are free at least.
+fn know_room(guest: &Guest)
+    ensures { guest.now.frames.count ≤ guest.now.frames.free + count_marked guest.now.frames.written }
+{
+    let _written = guest.space().written();
+}
+
 impl Progress {
     // Makes steps that are no calls: up to the next one after which the pacer is asked, to the last of the budget, or to one
     // after which too many pages are written.
@@ -41,6 +49,7 @@ impl Progress {
     fn run_on(&mut self, limits: &Limits) -> Stepped
         requires open { IsOpen limits.now self.old }
         requires below { IsBelow limits.now self.old }
+        requires left { self.old.position < limits.now.budget }
         ensures { RunsOn limits.now self.old self.new result }
     {
         let left = limits.budget - self.position;
@@ -57,12 +66,14 @@ impl Progress {
         requires open { IsAtCall self.old }
         ensures goes { OnOk result (Advances self.old self.new) }
         ensures ends { IfOk result (λ ended. CallsOrEnds ended self.old self.new) }
+        ensures tested { tested_to result self.new.position ≤ self.old.position + 1 }
         ensures told { (t : Told) (p : Position) (b : ℕ) → b ≤ self.old.position →
             RunsTo t p b self.old (H.told host.old) →
             Leads t p b result self.new (H.told host.new) }
         ensures faults { CausedIn run_source_of (H.faults host.old) (H.faults host.new) result }
         ensures port { IfErr result IsOfGuest }
     {
+        know_room(&self.guest);
         match serve_step(alloc, &mut self.guest, host) {
             Ok(Served::Exit(status)) => Ok(Some(End::Exit(status))),
             Ok(Served::Went(record)) => {

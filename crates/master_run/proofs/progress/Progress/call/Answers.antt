@@ -15,7 +15,7 @@ use Rattle.master_run.proofs.Telling.{fails_here, runs_call, runs_out, stops_beh
 use Rattle.master_run.proofs.progress.Progress.call.Goals as goal
 
 pub serve_step-requires-clause-frames : goal.serve_step-requires-clause-frames
-serve_step-requires-clause-frames g c = inr (omega (arith, few_for_step c.args.self.now.guest.frames c.args.self.now.guest.machine, c.requires.open.room))
+serve_step-requires-clause-frames g c = inr (omega (arith, few_for_step c.args.self.now.guest.frames c.args.self.now.guest.machine, c.requires.open.room, c.know_room.ensures))
 
 pub push-requires : goal.push-requires
 push-requires g c =
