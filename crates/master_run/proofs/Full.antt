@@ -90,18 +90,18 @@ module _ (t : Told) (p : Position) (b : ℕ) where
       let n = l.position - b in
       let since : _ = since_cut t p b l told runs behind ∙ ap Running (ap (at_machine q) runs.machine) in
       let records : Carries step_of at_machine entry_at (λ (h : Machine). []) run_goes run_records (Running last) n k q m next =
-          carries step_of at_machine entry_at (λ (h : Machine). []) run_goes run_records (Running last) n k q m next since leads in
+      carries step_of at_machine entry_at (λ (h : Machine). []) run_goes run_records (Running last) n k q m next since leads in
       let writes : Carries step_of at_machine writes_at (λ (h : Machine). stored_by (effect_of h)) run_goes run_writes (Running last) n k q m next =
-          carries step_of at_machine writes_at (λ (h : Machine). stored_by (effect_of h)) run_goes run_writes (Running last) n k q m next since leads in
+      carries step_of at_machine writes_at (λ (h : Machine). stored_by (effect_of h)) run_goes run_writes (Running last) n k q m next since leads in
       let same = counted l told runs behind in
       let there : (position_at (n + k) last).calls ≡ q.calls = ap (λ (x : RunState Position End). (state_of x).calls) records.there in
       let here : (position_at n last).calls ≡ q.calls = ap (λ (x : RunState Position End). (state_of x).calls) since in
       let entries : entries_of (n + k) last ≡ l.log =
-          records.said ∙ ap (λ (es : List CallRecord). entries_of n last ++ es) (nothing_along (λ (h : Machine). []) (λ h. refl) k (Running m)) ∙ append-nil (entries_of n last) ∙ sym runs.entries in
+      records.said ∙ ap (λ (es : List CallRecord). entries_of n last ++ es) (nothing_along (λ (h : Machine). []) (λ h. refl) k (Running m)) ∙ append-nil (entries_of n last) ∙ sym runs.entries in
       let marks : count_marked (marked_for_all (unmarked (2 ^ 20)) (writes_of (n + k) last)) ≡ written_after k l.guest =
-          ap (λ (rs : List Range). count_marked (marked_for_all (unmarked (2 ^ 20)) rs)) writes.said
-          ∙ ap count_marked (marked_for_all-append (unmarked (2 ^ 20)) (writes_of n last) (stored_along k m))
-          ∙ ap (λ (ms : List Bool). count_marked (marked_for_all ms (stored_along k m))) (sym runs.marks) in
+      ap (λ (rs : List Range). count_marked (marked_for_all (unmarked (2 ^ 20)) rs)) writes.said
+      ∙ ap count_marked (marked_for_all-append (unmarked (2 ^ 20)) (writes_of n last) (stored_along k m))
+      ∙ ap (λ (ms : List Bool). count_marked (marked_for_all ms (stored_along k m))) (sym runs.marks) in
       let sum : n + k ≡ l.position + k - b = omega (arith, behind) in
       subst (λ (i : ℕ). is_full (limits_of limits) last i ≡ false) sum
       (not_full (limits_of limits) last (n + k) (record {

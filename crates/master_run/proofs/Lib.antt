@@ -4,3 +4,4 @@ pub mod Advance
 pub mod Telling
 pub mod Full
 pub mod Onwards
+pub mod Polls

@@ -86,11 +86,11 @@ goes_next limits old mid h below = by h.ran.stops
     by : (mid.position - old.position ≡ h.steps) ⊎ (limits.frames - 32 < count_marked mid.guest.frames.written) → old.position < mid.position
     by (inl all) = omega (arith, all, h.some)
     by (inr many) = elim (cases_lt old.position mid.position) [
-        | inl lt ↦ lt
-        | inr le ↦ (
-            let none : mid.position - old.position ≡ 0 = omega (arith, le) in
-            absurd (omega (arith, many, below.pages, ap count_marked h.ran.frames.written, ap (λ (n : ℕ). written_after n old.guest) none, written_none old.guest)))
-      ]
+      | inl lt ↦ lt
+      | inr le ↦ (
+          let none : mid.position - old.position ≡ 0 = omega (arith, le) in
+          absurd (omega (arith, many, below.pages, ap count_marked h.ran.frames.written, ap (λ (n : ℕ). written_after n old.guest) none, written_none old.guest)))
+    ]
 
 -- a call can be served
 pub at_call : (limits : Limits) (old mid : Progress) → RunsOn limits old mid answers.Call → IsOpen limits old → IsBelow limits old → IsAtCall mid

@@ -1,5 +1,5 @@
 -- The run since the last cut.
-use Rattle.std.specs.Prelude.{◌≡◌, ℕ, zero, suc, ◌+◌, ◌-◌, ◌%◌, ◌^◌, ◌<◌, ◌≤◌, Bool, true, false, List, [], ◌++◌, length, Option, None, Some, Result, Ok, Err}
+use Rattle.std.specs.Prelude.{◌≡◌, ℕ, zero, suc, ◌+◌, ◌-◌, ◌/◌, ◌%◌, ◌^◌, ◌<◌, ◌≤◌, Bool, true, false, List, [], ◌++◌, length, Option, None, Some, Result, Ok, Err}
 use Rattle.call_record.specs.Record.{CallRecord, size_of_records}
 use Rattle.cow_pages.specs.Marks.{count_marked, unmarked}
 use Rattle.sp_host.specs.Tally.{later_answers, tally_after}
@@ -21,7 +21,7 @@ use Rattle.syscall_layer.specs.Serve.{PartWritten, told_after}
 use Rattle.syscall_layer.specs.Step.{StopsInput}
 use Rattle.syscall_layer.specs.declared.fault.RunFault.{RunFault}
 use Rattle.syscall_layer.specs.declared.fault.RunFault.TheVariants as faults
-use Rattle.boundary_verify.specs.Cuts.{CutLimits, is_full, writes_of}
+use Rattle.boundary_verify.specs.Cuts.{CutLimits, HasNoCut, is_cut, is_full, writes_of}
 use Rattle.boundary_verify.specs.Job.{FitsAt}
 use Rattle.master_run.specs.Answers.{HasAnswered, PacerState}
 use Rattle.master_run.specs.Master.{limits_of}
@@ -174,3 +174,40 @@ pub record IsSameButPoll (old new : Progress) : Type 0 where
   pub position : new.position ≡ old.position
   pub calls : new.calls ≡ old.calls
   pub log : new.log ≡ old.log
+
+-- From the cut at b on, where the pacer showed `first` and had answered so, it was asked up to position t, and no position before
+-- `bound` is a cut.
+pub record Walks (limits : Limits) (p : Position) (b : ℕ) (first : PacerState) (answers : ℕ → Bool) (t bound : ℕ) (now : PacerState) : Type 0 where
+  pub later : ℕ → Bool
+  pub agrees : (k : ℕ) → k ≤ b / limits.poll → later k ≡ answers k
+  pub answered : HasAnswered later (t / limits.poll) first now
+  pub none : HasNoCut (limits_of limits) later p b bound
+
+-- the next cut
+pub record FindsCut (limits : Limits) (t : Told) (p : Position) (b : ℕ) (first : PacerState) (answers : ℕ → Bool) (new : Progress) (told : Told) (now : PacerState) : Type 0 where
+  pub walks : Walks limits p b first answers new.position new.position now
+  pub runs : RunsTo t p b new told
+  pub later : b < new.position
+  pub cut : is_cut (limits_of limits) walks.later p b new.position ≡ true
+
+-- the end of the budget
+pub record FindsNone (limits : Limits) (t : Told) (p : Position) (b : ℕ) (first : PacerState) (answers : ℕ → Bool) (n : ℕ) (new : Progress) (told : Told) (now : PacerState) : Type 0 where
+  pub walks : Walks limits p b first answers new.position (new.position + 1) now
+  pub runs : RunsTo t p b new told
+  pub whole : new.position ≡ limits.budget
+  pub budget : n ≡ limits.budget
+
+-- where the run came from the cut at b on
+abbrev pub Reaches : Limits → Told → Position → ℕ → PacerState → (ℕ → Bool) → Result (Option End) RunFault → Progress → Told → PacerState → Type 0
+Reaches limits t p b first answers (Ok None) new told now = FindsCut limits t p b first answers new told now
+Reaches limits t p b first answers (Ok (Some end)) new told now = Walks limits p b first answers new.position (new.position + 1) now × RunsOut t p b (end_by end) new told
+Reaches limits t p b first answers (Err (faults.Unsupported number pc)) new told now = Walks limits p b first answers new.position (new.position + 1) now × RunsOut t p b (Unsupported number pc) new told
+Reaches limits t p b first answers (Err (faults.BudgetSpent n)) new told now = FindsNone limits t p b first answers n new told now
+Reaches limits t p b first answers (Err faults.InputFault) new told now = Walks limits p b first answers new.position (new.position + 1) now × RunsInto t p new (λ q before. StopsInput t q before told)
+Reaches limits t p b first answers (Err (faults.OutputFault port)) new told now = Walks limits p b first answers new.position (new.position + 1) now × RunsInto t p new (λ q before. PartWritten t q.world before port (sent_at q) told)
+Reaches limits t p b first answers (Err faults.NoMemory) new told now = RunsShort t p new told
+
+-- the run came to a cut behind where it stood, or to its end
+abbrev pub CutOrEnds : Limits → Option End → Progress → Progress → Type 0
+CutOrEnds limits None old new = IsOpen limits new × (old.position < new.position)
+CutOrEnds limits (Some end) old new = (new.position < limits.budget) × StandsAtEnd end new.guest

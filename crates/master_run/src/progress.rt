@@ -1,12 +1,13 @@
 // The run since the last cut: without a tool, its calls recorded.
-ghost use Rattle.std.specs.Prelude.{◌≡◌, ◌+◌, ◌<◌, ◌≤◌, ◌↔◌, false, ℕ, IfErr, IfOk, OnOk};
+ghost use Rattle.std.specs.Prelude.{◌≡◌, ◌+◌, ◌/◌, ◌<◌, ◌≤◌, ◌↔◌, Bool, false, ℕ, IfErr, IfOk, OnOk};
 ghost use Rattle.cow_pages.specs.Marks.{count_marked};
 ghost use Rattle.sp_host.specs.Faults.{CausedIn};
 ghost use Rattle.sp_host.specs.Told.{Told};
 ghost use Rattle.guest_model.specs.Effect.{Effect, effect_of};
 ghost use Rattle.guest_model.specs.Serial.{Position};
 ghost use Rattle.syscall_layer.specs.Step.{IsOfGuest, run_source_of};
-ghost use Rattle.master_run.specs.Progress.{Advances, CallsOrEnds, EndsOrGoesOn, IsAtCall, IsBelow, IsOpen, IsSameButPoll, Leads, LeadsTo, Polls, RunsOn, RunsTo, tested_to};
+ghost use Rattle.master_run.specs.Answers.{HasAnswered, PacerState};
+ghost use Rattle.master_run.specs.Progress.{Advances, CallsOrEnds, CutOrEnds, EndsOrGoesOn, IsAtCall, IsBelow, IsOpen, IsSameButPoll, Leads, LeadsTo, Polls, Reaches, RunsOn, RunsTo, tested_to};
 
 use crate::limits::Limits;
 use call_record::RecordLog;
@@ -138,5 +139,43 @@ impl Progress {
         self.log.len() >= limits.records as u64
             || self.log.bytes() >= MOST_BYTES
             || self.guest.space().written() > limits.frames - SPARE_FRAMES
+    }
+
+    /// Runs on to the next cut, or to the end of the run, which is answered.
+    pub(crate) fn next_cut<H: Host, P: Pacer>(
+        &mut self,
+        alloc: Global,
+        limits: &Limits,
+        host: &mut H,
+        pacer: &mut P,
+    ) -> Result<Option<End>, RunFault>
+        requires open { IsOpen limits.now self.old }
+        requires below { IsBelow limits.now self.old }
+        ensures goes { OnOk result (Advances self.old self.new) }
+        ensures ends { IfOk result (λ ended. CutOrEnds limits.now ended self.old self.new) }
+        ensures told { (t : Told) (p : Position) (first : PacerState) (answers : ℕ → Bool)
+            → RunsTo t p self.old.position self.old (H.told host.old)
+            → HasAnswered answers (self.old.position / limits.now.poll) first
+            (record { period = P.period_shown pacer.old; tally = P.tally pacer.old; answers = P.answers pacer.old })
+            → Reaches limits.now t p self.old.position first answers result self.new (H.told host.new)
+            (record { period = P.period_shown pacer.new; tally = P.tally pacer.new; answers = P.answers pacer.new }) }
+        ensures within { self.new.position ≤ limits.now.budget }
+        ensures faults { CausedIn run_source_of (H.faults host.old) (H.faults host.new) result }
+        ensures port { IfErr result IsOfGuest }
+        ensures period { P.period_shown pacer.new ≡ P.period_shown pacer.old }
+    {
+        'run: while self.position < limits.budget {
+            match self.advance(alloc, limits, host) {
+                Ok(None) => {
+                    let due = self.poll(limits, pacer);
+                    if due || self.is_full(limits) {
+                        return Ok(None);
+                    }
+                }
+                Ok(Some(end)) => return Ok(Some(end)),
+                Err(fault) => return Err(fault),
+            }
+        }
+        Err(RunFault::BudgetSpent { n: limits.budget })
     }
 }

@@ -12,6 +12,7 @@ use Rattle.master_run.specs.Progress.{Advances, RunsOn}
 use Rattle.master_run.specs.declared.progress.Progress.{Progress}
 use Rattle.master_run.proofs.Onwards.{advances_more, advances_run, at_call, fault_stops, goes_next, on_ok, quiet_run, runs_mid}
 use Rattle.master_run.proofs.Telling.{runs_out}
+use Rattle.master_run.proofs.Polls.{not_paced, before}
 use Rattle.master_run.proofs.progress.Progress.advance.Goals as goal
 
 pub call-requires-clause-open : goal.call-requires-clause-open
@@ -33,8 +34,7 @@ returns-in-Next-clause-told g c t p b behind runs =
     let old = c.args.self.now in
     let mid = c.run_on.new.self in
     let told : Told = g.H.Host.told c.args.host.now in
-    let h = subst (λ (a : Stepped). RunsOn limits old mid a) c.in-Next.is c.run_on.ensures in
-    (
+    let h = subst (λ (a : Stepped). RunsOn limits old mid a) c.in-Next.is c.run_on.ensures in (
       runs_mid limits old mid answers.Next h t p b told runs behind,
       λ s more within. quiet_run limits old mid answers.Next h t p b told runs behind c.requires.below s more (omega (arith, within, h.later)) (omega arith) (omega arith),
     )
@@ -50,8 +50,7 @@ returns-in-Call-clause-told g c t p b behind runs =
     let old = c.args.self.now in
     let mid = c.run_on.new.self in
     let told : Told = g.H.Host.told c.args.host.now in
-    let h = subst (λ (a : Stepped). RunsOn limits old mid a) c.in-Call.is c.run_on.ensures in
-    (
+    let h = subst (λ (a : Stepped). RunsOn limits old mid a) c.in-Call.is c.run_on.ensures in (
       c.call.ensures.told t p b (omega (arith, behind, h.later)) (runs_mid limits old mid answers.Call h t p b told runs behind),
       λ s more within. quiet_run limits old mid answers.Call h t p b told runs behind c.requires.below s more (omega (arith, within, h.later, c.call.ensures.tested)) (omega arith) (omega arith),
     )
@@ -68,8 +67,7 @@ returns-in-Fault-clause-told g c t p b behind runs =
     let kind = c.in-Fault.kind in
     let h = subst (λ (a : Stepped). RunsOn limits old mid a) c.in-Fault.is c.run_on.ensures in
     let there = runs_mid limits old mid (answers.Fault kind) h t p b told runs behind in
-    let stops = fault_stops t there.position (sent_of mid.position p) mid.guest.machine (kind_number kind) c.pc.result told there.machine h.ran.stops.1 c.pc.ensures there.told_is in
-    (
+    let stops = fault_stops t there.position (sent_of mid.position p) mid.guest.machine (kind_number kind) c.pc.result told there.machine h.ran.stops.1 c.pc.ensures there.told_is in (
       runs_out t p b mid mid told told (serial.Signal (kind_number kind) c.pc.result) there (omega (arith, behind, h.later)) stops refl refl,
       λ s more within. quiet_run limits old mid (answers.Fault kind) h t p b told runs behind c.requires.below s more (omega (arith, within, h.later)) (omega arith) (omega arith),
     )
