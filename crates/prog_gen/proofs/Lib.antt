@@ -1,2 +1,3 @@
 mod Seeds
 mod Added
+mod OneFile

@@ -14,15 +14,19 @@ start n =
     upper 20 (pos 0x100000) ∷ upper 8 (pos 0x100000) ∷ upper 18 (pos 0x1000) ∷ upper 19 (pos 0xf000)
     ∷ immediate Addi 9 0 (pos (1000 + n % 1000)) ∷ []
 
--- the instruction that a drawn number stands for, by its remainder modulo 8
-abbrev pub instr_of : ℕ → Fields
-instr_of d =
+-- the eight instructions that a drawn number can stand for
+abbrev pub choices : ℕ → List Fields
+choices d =
     let rd = 10 + d / 8 % 6 in
     let a = 10 + d / 64 % 6 in
     let b = 10 + d / 512 % 6 in
     let offset = pos (4 * (d / 4096 % 512)) in
-    get_or (registers Add rd a b ∷ registers Sub rd a b ∷ registers Xor rd a b ∷ registers Mul rd a b
-    ∷ registers Divu rd a b ∷ registers Sltu rd a b ∷ immediate Lw rd 8 offset ∷ store Sw b offset 8 ∷ []) (d % 8) ecall
+    registers Add rd a b ∷ registers Sub rd a b ∷ registers Xor rd a b ∷ registers Mul rd a b
+    ∷ registers Divu rd a b ∷ registers Sltu rd a b ∷ immediate Lw rd 8 offset ∷ store Sw b offset 8 ∷ []
+
+-- the one that it stands for
+abbrev pub instr_of : ℕ → Fields
+instr_of d = get_or (choices d) (d % 8) ecall
 
 -- so many drawn instructions, from the draw of this number on
 unfoldable pub drawn : ℕ → ℕ → ℕ → List Fields

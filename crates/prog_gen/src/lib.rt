@@ -6,6 +6,7 @@ mod counter;
 mod demo;
 mod draws;
 mod instrs;
+pub mod laws;
 
 pub use counter::word_counter;
 pub use demo::demo_program;
