@@ -1,5 +1,5 @@
 -- Instructions that are appended one after the other.
-use Rattle.std.proofs.Common.{◌≡◌, ℕ, ◌+◌, ◌-◌, ◌*◌, ◌%◌, pos, List, [], ◌∷◌, ◌++◌, map, Some, ap, sym, ◌∙◌, refl, append_assoc, append-nil, zero-add, ◌<◌, length, get_or, take, subst}
+use Rattle.std.proofs.Common.{◌≡◌, ℕ, ◌+◌, ◌-◌, ◌*◌, ◌%◌, pos, List, [], ◌∷◌, ◌++◌, map, Some, ap, sym, ◌∙◌, refl, append_assoc, append-nil, length-append, zero-add, ◌<◌, length, get_or, take, subst}
 use Rattle.std.proofs.lemmas.List.{map-append, take_more}
 use Rattle.std.proofs.lemmas.List.FromFn.{map-range_with_len_more}
 use Rattle.std.proofs.lemmas.Grind.{flat_map-append}
@@ -7,7 +7,7 @@ use Rattle.std.specs.List.{flat_map, range_with_len}
 use Rattle.rv_isa.specs.Table.{Fields, Decodes}
 use Rattle.rv_isa.specs.Decoded.{decoded}
 use Rattle.rv_isa.proofs.Decoded.{decoded_is}
-use Rattle.prog_gen.specs.File.{word, Adds}
+use Rattle.prog_gen.specs.File.{word, Adds, AddsSome}
 use Rattle.rv_isa.specs.declared.op.Op.TheVariants.{Jalr}
 use Rattle.prog_gen.specs.Instrs.{immediate, jump}
 use Rattle.prog_gen.specs.Draws.{draw}
@@ -38,6 +38,16 @@ pub adds_next : (instrs : List Fields) (k : ℕ) (i : Fields) (a b c : List ℕ)
 adds_next instrs k i a b c within is first second =
     let next : take (k + 1) instrs ≡ take k instrs ++ i ∷ [] = take_more instrs k i within ∙ ap (λ (last : Fields). take k instrs ++ last ∷ []) (sym is) in
     subst (λ (made : List Fields). Adds made a c) (sym next) (adds_more (take k instrs) (i ∷ []) a b c first second)
+
+pub adds_some : (count : ℕ) (instrs : List Fields) (old new : List ℕ) → Adds instrs old new → length instrs ≡ count → AddsSome count old new
+adds_some count instrs old new adds number = record { instrs = instrs; number = number; adds = adds }
+
+pub some_more : (m n : ℕ) (a b c : List ℕ) → AddsSome m a b → AddsSome n b c → AddsSome (m + n) a c
+some_more m n a b c one two = record {
+  instrs = one.instrs ++ two.instrs;
+  number = length-append one.instrs two.instrs ∙ ap (λ k. k + length two.instrs) one.number ∙ ap (λ k. m + k) two.number;
+  adds = adds_more one.instrs two.instrs a b c one.adds two.adds;
+}
 
 -- all of them are those that were added before, and more
 pub adds_all : (all before more : List Fields) (a b c : List ℕ) → all ≡ before ++ more → Adds before a b → Adds more b c → Adds all a c

@@ -1,5 +1,5 @@
 -- A file of a program: its headers, and instructions behind them.
-use Rattle.std.specs.Prelude.{◌≡◌, ℕ, List, ◌∷◌, ◌++◌, map, replicate, Some}
+use Rattle.std.specs.Prelude.{◌≡◌, ℕ, List, ◌∷◌, ◌++◌, map, length, replicate, Some}
 use Rattle.std.specs.Int.{w16, w32, to_le_bytes}
 use Rattle.std.specs.List.{flat_map}
 use Rattle.rv_isa.specs.Table.{Fields}
@@ -33,3 +33,9 @@ pub record Adds (instrs : List Fields) (old new : List ℕ) : Type 0 where
   pub words : List ℕ
   pub spelled : map decoded words ≡ map Some instrs
   pub added : new ≡ old ++ flat_map word words
+
+-- the same, of so many instructions
+pub record AddsSome (count : ℕ) (old new : List ℕ) : Type 0 where
+  pub instrs : List Fields
+  pub number : length instrs ≡ count
+  pub adds : Adds instrs old new

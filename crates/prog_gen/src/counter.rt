@@ -1,4 +1,7 @@
 // A program that counts words.
+ghost use Rattle.std.specs.Prelude.{IfOk};
+ghost use Rattle.prog_gen.specs.File.{headers, AddsSome};
+
 use crate::code::{push_all, push_headers};
 use crate::instrs::{branch, ecall, immediate, jump, registers, store, upper};
 use rv_isa::Op;
@@ -11,7 +14,9 @@ use std::alloc::{AllocError, Global};
 /// writes `LINES WORDS BYTES` and then, ascending, a line `VALUE COUNT` for each value that
 /// occurred, in decimal, and exits with 0. It keeps 256 counters of 32 bits in a map of 1 MiB, and
 /// reads up to 4,096 bytes at a time.
-pub fn word_counter(alloc: Global) -> Result<Vec<u8>, AllocError> {
+pub fn word_counter(alloc: Global) -> Result<Vec<u8>, AllocError>
+    ensures { IfOk result (λ file. AddsSome 84 (headers 452 0x20000 0x2000) file.items) }
+{
     let mut bytes = Vec::new(alloc);
     push_headers(&mut bytes, 452, 0x20000, 0x2000)?;
     push_read(&mut bytes)?;
@@ -25,7 +30,10 @@ pub fn word_counter(alloc: Global) -> Result<Vec<u8>, AllocError> {
 
 // Words 0 to 15. The map goes to x8. Word 7 reads: the bytes go to 0x20000, in x5, up to x6, and
 // without one it goes on at word 35. x19 is the number of bytes.
-fn push_read(bytes: &mut Vec<u8>) -> Result<(), AllocError> {
+#[tactic(auto, using(crate::proofs::Added::adds_some))]
+fn push_read(bytes: &mut Vec<u8>) -> Result<(), AllocError>
+    ensures { IfOk result (λ _. AddsSome 16 bytes.old.items bytes.new.items) }
+{
     push_all(
         bytes,
         &[
@@ -51,7 +59,10 @@ fn push_read(bytes: &mut Vec<u8>) -> Result<(), AllocError> {
 
 // Words 16 to 34, for each byte, and then back to word 7. x9 is the number of lines, x18 that of
 // words, and x20 is 1 within a word.
-fn push_count(bytes: &mut Vec<u8>) -> Result<(), AllocError> {
+#[tactic(auto, using(crate::proofs::Added::adds_some))]
+fn push_count(bytes: &mut Vec<u8>) -> Result<(), AllocError>
+    ensures { IfOk result (λ _. AddsSome 19 bytes.old.items bytes.new.items) }
+{
     push_all(
         bytes,
         &[
@@ -79,7 +90,10 @@ fn push_count(bytes: &mut Vec<u8>) -> Result<(), AllocError> {
 }
 
 // Words 35 to 46. The text stands from x23, 0x21000, up to x22.
-fn push_totals(bytes: &mut Vec<u8>) -> Result<(), AllocError> {
+#[tactic(auto, using(crate::proofs::Added::adds_some))]
+fn push_totals(bytes: &mut Vec<u8>) -> Result<(), AllocError>
+    ensures { IfOk result (λ _. AddsSome 12 bytes.old.items bytes.new.items) }
+{
     push_all(
         bytes,
         &[
@@ -100,7 +114,10 @@ fn push_totals(bytes: &mut Vec<u8>) -> Result<(), AllocError> {
 }
 
 // Words 47 to 59, for each value x24 and its counter x25.
-fn push_values(bytes: &mut Vec<u8>) -> Result<(), AllocError> {
+#[tactic(auto, using(crate::proofs::Added::adds_some))]
+fn push_values(bytes: &mut Vec<u8>) -> Result<(), AllocError>
+    ensures { IfOk result (λ _. AddsSome 13 bytes.old.items bytes.new.items) }
+{
     push_all(
         bytes,
         &[
@@ -122,7 +139,10 @@ fn push_values(bytes: &mut Vec<u8>) -> Result<(), AllocError> {
 }
 
 // Words 60 to 67 write the text and exit.
-fn push_finish(bytes: &mut Vec<u8>) -> Result<(), AllocError> {
+#[tactic(auto, using(crate::proofs::Added::adds_some))]
+fn push_finish(bytes: &mut Vec<u8>) -> Result<(), AllocError>
+    ensures { IfOk result (λ _. AddsSome 8 bytes.old.items bytes.new.items) }
+{
     push_all(
         bytes,
         &[
@@ -140,7 +160,10 @@ fn push_finish(bytes: &mut Vec<u8>) -> Result<(), AllocError> {
 
 // Words 68 to 83, a function: to the text it appends x10 in decimal and the byte x11. x6 is first
 // the power of ten of the highest digit.
-fn push_number(bytes: &mut Vec<u8>) -> Result<(), AllocError> {
+#[tactic(auto, using(crate::proofs::Added::adds_some))]
+fn push_number(bytes: &mut Vec<u8>) -> Result<(), AllocError>
+    ensures { IfOk result (λ _. AddsSome 16 bytes.old.items bytes.new.items) }
+{
     push_all(
         bytes,
         &[
