@@ -1,0 +1,4 @@
+mod Seeds
+mod Added
+mod OneFile
+mod Sizes

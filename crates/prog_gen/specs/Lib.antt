@@ -1,0 +1,4 @@
+pub mod Instrs
+pub mod Draws
+pub mod File
+pub mod Demo
