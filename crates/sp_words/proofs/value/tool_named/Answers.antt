@@ -1,0 +1,6 @@
+use Rattle.std.proofs.Common.{refl}
+use Rattle.sp_words.proofs.value.tool_named.Goals as goal
+
+pub returns-in-cache-clause-sizes : goal.returns-in-cache-clause-sizes
+unfolding lib.Count.ones
+returns-in-cache-clause-sizes c = refl
