@@ -1,5 +1,5 @@
 -- What `parse` makes of decimal digits without a sign.
-use Rattle.std.proofs.Common.{◌≡◌, ◌∙◌, ◌<◌, ◌^◌, ◌==◌, ◌&&◌, ℕ, Bool, not, length, true, false, List, [], ◌∷◌, refl, sym, subst, ap, arith, Some, None, Result, Ok, Err}
+use Rattle.std.proofs.Common.{◌≡◌, ◌∙◌, ◌<◌, ◌^◌, ◌==◌, ◌&&◌, ℕ, Bool, not, length, true, false, List, [], ◌∷◌, refl, sym, subst, ap, arith, None, Result, Ok, Err}
 use Rattle.std.specs.List.{list_all}
 use Rattle.std.specs.Char.{digit_value}
 use Rattle.std.specs.Prelude.{nat_le}
@@ -57,8 +57,3 @@ unread least most ds r e h fits parses is =
     let past : most < digits_value 10 (without_leading_plus ds) = omega (arith, not_below) in
     let P : List ℕ → Type 0 = λ t. most < digits_value 10 t in
     past_most least most ds (subst P (as_they_are ds (digits_of ds h)) past)
-
--- and those that are read write their number
-pub read : {E : Type 0} (ds : List ℕ) (r : Result ℕ E) (n : ℕ) → is_decimal ds ≡ true → ParsesUnsigned 64 10 ds r → r ≡ Ok n
-    → n ≡ digits_value 10 ds
-read ds r n h parses is = (OkIff-at_ok r _ _ n parses is).1 ∙ ap (digits_value 10) (as_they_are ds (digits_of ds h))

@@ -1,6 +1,6 @@
 -- The commands as `clap` knows them, with options alone, and what it makes of words.
 use Rattle.std.specs.Prelude.{◌≡◌, ◌≢◌, true, List, [], Some, codes, Result, Ok, Err}
-use Rattle.clap.specs.Walk.{Rule, rows_of}
+use Rattle.clap.specs.Walk.{rows_of}
 use Rattle.clap.specs.Simple.{App, matches_of, new_app, new_rule, on_top, with_rule}
 use Rattle.clap.specs.Faults.{fault_of, is_simple_and_free}
 use Rattle.clap.specs.Matches.{found_of}

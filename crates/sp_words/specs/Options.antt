@@ -1,5 +1,5 @@
 -- What the options of a run mean together: the value of each, its default where it is not given, or the first bad one.
-use Rattle.std.specs.Prelude.{◌≡◌, ℕ, Bool, false, List, codes, Option, Some, None, Result, Ok, Err, ok_or}
+use Rattle.std.specs.Prelude.{ℕ, Bool, false, List, codes, Option, Some, None, Result, Ok, Err, ok_or}
 use Rattle.std.specs.Option.{option_map_or}
 use Rattle.std.specs.Str.{bytes_eq}
 use Rattle.clap.specs.Walk.{Row, first_of}

@@ -1,5 +1,5 @@
 -- What the value of an option means.
-use Rattle.std.specs.Prelude.{◌==◌, ◌&&◌, ℕ, Bool, not, List, codes, if◌then◌else◌, length, nat_le, nat_lt, Option, Some, None, option_and_then, slice_index}
+use Rattle.std.specs.Prelude.{◌==◌, ◌&&◌, ℕ, Bool, not, codes, if◌then◌else◌, length, nat_le, nat_lt, Option, Some, None, slice_index}
 use Rattle.std.specs.List.{after_first, before_first, list_all, list_any}
 use Rattle.std.specs.Str.{bytes_eq}
 use Rattle.std.specs.Str.Parse.{digits_value}

@@ -1,5 +1,5 @@
 // What words ask for, and why they are not read.
-ghost use Rattle.std.specs.Prelude.{◌≡◌, List, ℕ, map, string_bytes, true};
+ghost use Rattle.std.specs.Prelude.{◌≡◌, ◌≤◌, List, ℕ, map, string_bytes, true};
 ghost use Rattle.sp_words.specs.Sizes.{has_sizes};
 
 use master_run::Limits;
@@ -136,6 +136,8 @@ pub struct RunAsked {
     pub file: FileName,
     pub args: Arguments,
     pub ghost sizes: { has_sizes tool ≡ true },
+    pub ghost msec_range: { (1 ≤ msec) × (msec ≤ 60000) },
+    pub ghost workers_range: { (1 ≤ workers) × (workers ≤ 16) },
 }
 
 /// What words ask for.
