@@ -127,7 +127,7 @@ pub struct RunAsked {
     pub by: By,
     pub tool: ToolName,
     pub limits: Limits,
-    /// A slice of so many milliseconds ends, from 1 to 60,000.
+    /// A cut is due after so many milliseconds, from 1 to 60,000.
     pub msec: u32,
     /// How many workers run slices, from 1 to 16.
     pub workers: u32,
