@@ -1,0 +1,11 @@
+use Rattle.std.proofs.Common.{map, string_bytes}
+use Rattle.sp_words.specs.Asked.{view_with}
+use Rattle.sp_words.specs.Commands.{view_app}
+use Rattle.sp_words.proofs.Forms.{one_in_form, one_out_of_form}
+use Rattle.sp_words.proofs.read.read_view.Goals as goal
+
+pub returns-in-Ok : goal.returns-in-Ok
+returns-in-Ok c = one_in_form string_bytes view_app view_with (map string_bytes c.args.options.now) c.args.words.now _ c.view_with.result c.in-Ok.ensures c.view_with.ensures
+
+pub returns-in-Err : goal.returns-in-Err
+returns-in-Err c = one_out_of_form string_bytes view_app view_with (map string_bytes c.args.options.now) c.args.words.now c.in-Err.fault c.in-Err.ensures

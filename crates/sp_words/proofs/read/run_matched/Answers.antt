@@ -1,0 +1,7 @@
+use Rattle.std.proofs.Common.{ap, ◌∙◌}
+use Rattle.clap.specs.Faults.{is_simple_and_free}
+use Rattle.sp_words.proofs.Forms.{run_is_simple}
+use Rattle.sp_words.proofs.read.run_matched.Goals as goal
+
+pub matched-requires : goal.matched-requires
+matched-requires c = ap is_simple_and_free c.in_ok-command.ensures ∙ run_is_simple

@@ -1,0 +1,7 @@
+pub mod Sizes
+pub mod Split
+pub mod Commands
+pub mod Value
+pub mod Options
+pub mod Shown
+pub mod Asked
