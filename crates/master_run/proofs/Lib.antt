@@ -5,3 +5,4 @@ pub mod Telling
 pub mod Full
 pub mod Onwards
 pub mod Polls
+pub mod Walks

@@ -20,10 +20,12 @@ use Rattle.rv_machine.specs.declared.step.FaultKind.{FaultKind}
 use Rattle.rv_machine.specs.declared.step.Stepped.{Stepped}
 use Rattle.rv_machine.specs.declared.step.Stepped.TheVariants as answers
 use Rattle.syscall_layer.specs.Step.{StopsRun}
+use Rattle.syscall_layer.specs.declared.fault.RunFault.{RunFault}
+use Rattle.syscall_layer.specs.declared.fault.RunFault.TheVariants as faults
 use Rattle.syscall_layer.proofs.Step.{nothing_sent, step_with}
 use Rattle.boundary_verify.specs.Cuts.{is_full}
 use Rattle.master_run.specs.Master.{limits_of}
-use Rattle.master_run.specs.Progress.{Advances, IsAtCall, IsBelow, IsOpen, IsQuiet, PlaysFrom, RunsOn, RunsOut, RunsTo}
+use Rattle.master_run.specs.Progress.{Advances, HasPollOf, IsAtCall, IsBeforePoll, IsBelow, IsOpen, IsQuiet, PlaysFrom, RunsOn, RunsOut, RunsTo}
 use Rattle.master_run.specs.declared.limits.Limits.{Limits}
 use Rattle.master_run.specs.declared.progress.Progress.{Progress}
 use Rattle.master_run.proofs.Advance.{plays_run}
@@ -40,7 +42,6 @@ advances_more old mid new first second = record {
   frames = second.frames ∙ first.frames;
   origin = second.origin ∙ first.origin;
   calls = omega (arith, first.calls, second.calls);
-  asked = second.asked ∙ first.asked;
 }
 
 -- no page more is marked by no instruction
@@ -55,7 +56,6 @@ module _ (limits : Limits) (old mid : Progress) (answer : Stepped) (h : RunsOn l
     frames = h.ran.frames.count;
     origin = h.ran.origin;
     calls = omega (arith, h.later, h.calls);
-    asked = h.asked;
   }
 
   marked_now : count_marked mid.guest.frames.written ≡ written_after (mid.position - old.position) old.guest
@@ -114,3 +114,25 @@ fault_stops t q before m kind pc now here e at_pc told =
 pub on_ok : (old mid new : Progress) (r : Result (Option Rattle.rv_machine.specs.declared.step.End.End) Rattle.syscall_layer.specs.declared.fault.RunFault.RunFault) → Advances old mid → Rattle.std.specs.Prelude.OnOk r (Advances mid new) → Rattle.std.specs.Prelude.OnOk r (Advances old new)
 on_ok old mid new (Ok ended) first second = advances_more old mid new first second
 on_ok old mid new (Err fault) first second = tt
+
+pub poll_kept : (old mid new : Progress) (r : Result (Option Rattle.rv_machine.specs.declared.step.End.End) Rattle.syscall_layer.specs.declared.fault.RunFault.RunFault) → HasPollOf old mid → Rattle.std.specs.Prelude.OnOk r (HasPollOf mid new) → Rattle.std.specs.Prelude.OnOk r (HasPollOf old new)
+poll_kept old mid new (Ok ended) first second = second ∙ first
+poll_kept old mid new (Err fault) first second = tt
+
+-- what stops a call stops the run before the next poll
+pub stops_before : (old mid new : Progress) (r : Result (Option Rattle.rv_machine.specs.declared.step.End.End) RunFault) → old.position ≤ mid.position → HasPollOf old mid → IsBeforePoll r mid new → IsBeforePoll r old new
+stops_before old mid new (Ok None) le poll h = tt
+stops_before old mid new (Ok (Some end)) le poll h = (omega (arith, le, h.0), omega (arith, poll, h.1))
+stops_before old mid new (Err (faults.Unsupported number pc)) le poll h = (omega (arith, le, h.0), omega (arith, poll, h.1))
+stops_before old mid new (Err (faults.BudgetSpent n)) le poll h = (omega (arith, le, h.0), omega (arith, poll, h.1))
+stops_before old mid new (Err faults.InputFault) le poll h = (omega (arith, le, h.0), omega (arith, poll, h.1))
+stops_before old mid new (Err (faults.OutputFault port)) le poll h = (omega (arith, le, h.0), omega (arith, poll, h.1))
+stops_before old mid new (Err faults.NoMemory) le poll h = tt
+
+-- a call that fails
+pub fault_before : (fault : RunFault) (old new : Progress) → new.position ≡ old.position → 0 < old.until_poll → IsBeforePoll (Err fault) old new
+fault_before (faults.Unsupported number pc) old new same some = (omega (arith, same), omega (arith, same, some))
+fault_before (faults.BudgetSpent n) old new same some = (omega (arith, same), omega (arith, same, some))
+fault_before faults.InputFault old new same some = (omega (arith, same), omega (arith, same, some))
+fault_before (faults.OutputFault port) old new same some = (omega (arith, same), omega (arith, same, some))
+fault_before faults.NoMemory old new same some = tt

@@ -112,6 +112,16 @@ tested_to (Err faults.NoMemory) n = n
 abbrev pub LeadsTo : Limits → Told → Position → ℕ → Progress → Result (Option End) RunFault → Progress → Told → Type 0
 LeadsTo limits t p b old result new told = Leads t p b result new told × IsQuiet (limits_of limits) p b old.position (tested_to result new.position)
 
+-- what stops a run stops it before the next poll; want of memory is told behind a step, too
+abbrev pub IsBeforePoll : Result (Option End) RunFault → Progress → Progress → Type 0
+IsBeforePoll (Ok None) old new = Unit {0}
+IsBeforePoll (Ok (Some end)) old new = (old.position ≤ new.position) × (new.position < old.position + old.until_poll)
+IsBeforePoll (Err (faults.Unsupported number pc)) old new = (old.position ≤ new.position) × (new.position < old.position + old.until_poll)
+IsBeforePoll (Err (faults.BudgetSpent n)) old new = (old.position ≤ new.position) × (new.position < old.position + old.until_poll)
+IsBeforePoll (Err faults.InputFault) old new = (old.position ≤ new.position) × (new.position < old.position + old.until_poll)
+IsBeforePoll (Err (faults.OutputFault port)) old new = (old.position ≤ new.position) × (new.position < old.position + old.until_poll)
+IsBeforePoll (Err faults.NoMemory) old new = Unit {0}
+
 -- the guest stands at the step that ends its run so
 abbrev pub StandsAtEnd : End → GuestState → Type 0
 StandsAtEnd (Exit status) g = effect_of g.machine ≡ Effect.Call
@@ -142,7 +152,10 @@ pub record Advances (old new : Progress) : Type 0 where
   pub frames : new.guest.frames.count ≡ old.guest.frames.count
   pub origin : new.guest.origin ≡ old.guest.origin
   pub calls : new.calls + old.position ≤ old.calls + new.position
-  pub asked : new.position + new.until_poll ≡ old.position + old.until_poll
+
+-- the next poll is where it was
+abbrev pub HasPollOf : Progress → Progress → Type 0
+HasPollOf old new = new.position + new.until_poll ≡ old.position + old.until_poll
 
 -- no call was made: the guest ran to this answer, and the rest followed
 pub record RunsOn (limits : Limits) (old new : Progress) (answer : Stepped) : Type 0 where

@@ -7,7 +7,7 @@ ghost use Rattle.guest_model.specs.Effect.{Effect, effect_of};
 ghost use Rattle.guest_model.specs.Serial.{Position};
 ghost use Rattle.syscall_layer.specs.Step.{IsOfGuest, run_source_of};
 ghost use Rattle.master_run.specs.Answers.{HasAnswered, PacerState};
-ghost use Rattle.master_run.specs.Progress.{Advances, CallsOrEnds, CutOrEnds, EndsOrGoesOn, IsAtCall, IsBelow, IsOpen, IsSameButPoll, Leads, LeadsTo, Polls, Reaches, RunsOn, RunsTo, tested_to};
+ghost use Rattle.master_run.specs.Progress.{Advances, CallsOrEnds, CutOrEnds, EndsOrGoesOn, HasPollOf, IsAtCall, IsBeforePoll, IsBelow, IsOpen, IsSameButPoll, Leads, LeadsTo, Polls, Reaches, RunsOn, RunsTo, tested_to};
 
 use crate::limits::Limits;
 use call_record::RecordLog;
@@ -66,8 +66,11 @@ impl Progress {
         requires call { effect_of self.old.guest.machine ≡ Effect.Call }
         requires open { IsAtCall self.old }
         ensures goes { OnOk result (Advances self.old self.new) }
+        ensures poll { OnOk result (HasPollOf self.old self.new) }
         ensures ends { IfOk result (λ ended. CallsOrEnds ended self.old self.new) }
         ensures tested { tested_to result self.new.position ≤ self.old.position + 1 }
+        ensures before { IsBeforePoll result self.old self.new }
+        ensures within { self.new.position ≤ self.old.position + 1 }
         ensures told { (t : Told) (p : Position) (b : ℕ) → b ≤ self.old.position →
             RunsTo t p b self.old (H.told host.old) →
             Leads t p b result self.new (H.told host.new) }
@@ -101,7 +104,10 @@ impl Progress {
         requires below { IsBelow limits.now self.old }
         requires left { self.old.position < limits.now.budget }
         ensures goes { OnOk result (Advances self.old self.new) }
+        ensures poll { OnOk result (HasPollOf self.old self.new) }
         ensures ends { IfOk result (λ ended. EndsOrGoesOn limits.now ended self.old self.new) }
+        ensures before { IsBeforePoll result self.old self.new }
+        ensures within { self.new.position ≤ limits.now.budget }
         ensures told { (t : Told) (p : Position) (b : ℕ) → b ≤ self.old.position →
             RunsTo t p b self.old (H.told host.old) →
             LeadsTo limits.now t p b self.old result self.new (H.told host.new) }

@@ -36,7 +36,6 @@ returns-in-Ok-clause-goes g c =
       frames = goes.marks.count;
       origin = goes.origin;
       calls = omega arith;
-      asked = omega (arith, c.requires.open.asked);
     }
 
 pub returns-in-Ok-clause-told : goal.returns-in-Ok-clause-told
