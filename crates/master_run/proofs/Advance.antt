@@ -1,34 +1,24 @@
 -- A part of a run: the play of its records, and the run where it is told.
-use Rattle.std.proofs.Common.{◌≡◌, ◌⊎◌, inl, inr, ℕ, ◌+◌, ◌-◌, ◌^◌, ◌<◌, ◌≤◌, ◌||◌, Bool, true, false, List, [], ◌∷◌, ◌++◌, length, map, refl, sym, ap, subst, ◌∙◌, arith, append_assoc, length-append}
-use Rattle.std.specs.Prelude.{Option, None, Some, Result, Ok, Err, nat_le, nat_lt}
-use Rattle.std.proofs.lemmas.List.{append-nil}
+use Rattle.std.proofs.Common.{◌≡◌, ◌⊎◌, inl, inr, ℕ, ◌+◌, ◌-◌, ◌^◌, ◌<◌, ◌≤◌, Bool, true, List, [], ◌∷◌, ◌++◌, length, sym, ap, subst, ◌∙◌, arith, append_assoc, length-append}
+use Rattle.std.specs.Prelude.{Option, None, Some, Ok}
 use Rattle.std.proofs.lemmas.Bool.{cases_lt}
-use Rattle.sp_host.specs.Told.{Told}
-use Rattle.call_record.specs.Record.{CallRecord, size_of_records}
-use Rattle.cow_pages.specs.Marks.{count_marked, unmarked}
-use Rattle.guest_model.specs.Call.{Sent}
+use Rattle.call_record.specs.Record.{CallRecord}
+use Rattle.cow_pages.specs.Marks.{unmarked}
 use Rattle.guest_model.specs.Effect.{Call, effect_of, stored_by}
 use Rattle.guest_model.specs.Machine.{Machine}
-use Rattle.guest_model.specs.Play.{Halt, Script, Spot, entry_for, play_of, play_step, range_of, spot, written_at, written_of}
-use Rattle.guest_model.specs.Range.{Range, pages_among}
-use Rattle.guest_model.specs.Runs.{RunState, Running, after, along}
-use Rattle.guest_model.specs.Serial.{End, EndsAt, Position, entries_of, entry_at, position_at, run_of, sent_at, sent_of, step_of}
-use Rattle.guest_model.proofs.Follows.{calls_along, slice_get_next}
-use Rattle.guest_model.proofs.Runs.{after-next, along-next, running_earlier}
+use Rattle.guest_model.specs.Play.{Halt, Script, Spot, entry_for, play_of, play_step, spot, written_at, written_of}
+use Rattle.guest_model.specs.Runs.{RunState, Running}
+use Rattle.guest_model.proofs.Follows.{slice_get_next}
+use Rattle.guest_model.proofs.Runs.{after-next, along-next}
 use Rattle.guest_mem.specs.Frames.{marked_for_all}
 use Rattle.guest_mem.proofs.Ranges.{marked_for_all-append}
 use Rattle.rv_machine.specs.Guest.{GuestState}
-use Rattle.rv_machine.specs.Ran.{HasRun, machine_after, stored_along, tried, written_after}
-use Rattle.rv_machine.specs.declared.step.Ran.{Ran}
-use Rattle.syscall_layer.specs.Serve.{told_after}
+use Rattle.rv_machine.specs.Ran.{machine_after, stored_along}
 use Rattle.syscall_layer.specs.Step.{GoesByRecord, LeavesGuest}
 use Rattle.syscall_layer.specs.declared.server.Served.TheVariants as served
 use Rattle.guest_model.specs.Calls.{Deed}
-use Rattle.boundary_verify.specs.Cuts.{CutLimits, is_full, writes_at, writes_of}
 use Rattle.boundary_verify.specs.Job.{FitsAt}
-use Rattle.boundary_verify.proofs.Matches.{run_from}
 use Rattle.slice_runner.specs.Turn.{IsTurn}
-use Rattle.slice_runner.proofs.Frames.{pages_marked}
 use Rattle.slice_runner.proofs.Turns.{call_turn}
 use Rattle.master_run.specs.Progress.{PlaysFrom, PlaysTo, script_with}
 use Rattle.master_run.specs.declared.progress.Progress.{Progress}

@@ -1,7 +1,6 @@
 -- Where the rules that look at the run make no cut due.
-use Rattle.std.proofs.Common.{◌≡◌, ◌⊎◌, inl, inr, ℕ, ◌+◌, ◌-◌, ◌^◌, ◌<◌, ◌≤◌, ◌||◌, Bool, true, false, List, ◌++◌, length, refl, sym, ap, subst, ◌∙◌, arith, []}
+use Rattle.std.proofs.Common.{◌≡◌, ℕ, ◌+◌, ◌-◌, ◌^◌, ◌<◌, ◌≤◌, Bool, false, List, ◌++◌, length, refl, sym, ap, subst, ◌∙◌, arith, []}
 use Rattle.std.proofs.lemmas.Bool.Decides.{nat_tests}
-use Rattle.std.specs.Prelude.{nat_le, nat_lt}
 use Rattle.std.proofs.lemmas.List.{append-nil}
 use Rattle.sp_host.specs.Told.{Told}
 use Rattle.call_record.specs.Record.{CallRecord, size_of_records}
@@ -12,10 +11,9 @@ use Rattle.guest_model.specs.Range.{Range, pages_among}
 use Rattle.guest_model.specs.Runs.{RunState, Running, IsRunning, state_of}
 use Rattle.guest_model.specs.Serial.{End, Position, entries_of, entry_at, position_at, step_of}
 use Rattle.guest_model.proofs.Follows.{calls_along}
-use Rattle.guest_model.proofs.Runs.{running_earlier}
 use Rattle.guest_mem.specs.Frames.{marked_for_all}
 use Rattle.guest_mem.proofs.Ranges.{marked_for_all-append}
-use Rattle.rv_machine.specs.Ran.{machine_after, state_of as machine_state, stored_along, written_after}
+use Rattle.rv_machine.specs.Ran.{machine_after, stored_along, written_after}
 use Rattle.boundary_verify.specs.Cuts.{CutLimits, is_full, writes_at, writes_of}
 use Rattle.slice_runner.proofs.Frames.{pages_marked}
 use Rattle.master_run.specs.Master.{limits_of}

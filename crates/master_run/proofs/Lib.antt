@@ -6,3 +6,5 @@ pub mod Full
 pub mod Onwards
 pub mod Polls
 pub mod Walks
+pub mod Jobs
+pub mod Handing

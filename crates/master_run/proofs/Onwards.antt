@@ -1,22 +1,19 @@
 -- A part of a run: instructions, and a call behind them.
-use Rattle.std.proofs.Common.{◌≡◌, ◌⊎◌, inl, inr, ℕ, zero, suc, ◌+◌, ◌-◌, ◌^◌, ◌<◌, ◌≤◌, Bool, true, false, List, refl, sym, ap, subst, ◌∙◌, arith}
+use Rattle.std.proofs.Common.{◌≡◌, ◌⊎◌, inl, inr, ℕ, zero, suc, ◌+◌, ◌-◌, ◌<◌, ◌≤◌, false, List, sym, ap, subst, ◌∙◌, arith}
 use Rattle.std.specs.Prelude.{Option, None, Some, Result, Ok, Err}
 use Rattle.std.proofs.lemmas.Bool.{cases_lt}
 use Rattle.sp_host.specs.Told.{Told}
 use Rattle.cow_pages.specs.Marks.{count_marked}
 use Rattle.guest_model.specs.Effect.{Effect, effect_of}
 use Rattle.guest_model.specs.Machine.{Machine}
-use Rattle.guest_model.specs.Play.{Spot}
 use Rattle.guest_model.specs.Range.{Range}
 use Rattle.guest_model.specs.Runs.{Running, IsRunning}
-use Rattle.guest_model.specs.Serial.{End, Position, Signal, position_at, sent_of, step_of}
+use Rattle.guest_model.specs.Serial.{Position, Signal, position_at}
 use Rattle.guest_model.proofs.Runs.{along-zero, running_earlier}
 use Rattle.guest_mem.specs.Frames.{marked_for_all}
 use Rattle.guest_mem.proofs.Ranges.{marked_for_all-none}
 use Rattle.rv_machine.specs.Guest.{GuestState}
-use Rattle.rv_machine.specs.Ran.{machine_after, state_of as machine_state, stored_along, tried, written_after}
-use Rattle.rv_machine.specs.Step.{kind_number}
-use Rattle.rv_machine.specs.declared.step.FaultKind.{FaultKind}
+use Rattle.rv_machine.specs.Ran.{machine_after, state_of as machine_state, tried, written_after}
 use Rattle.rv_machine.specs.declared.step.Stepped.{Stepped}
 use Rattle.rv_machine.specs.declared.step.Stepped.TheVariants as answers
 use Rattle.syscall_layer.specs.Step.{StopsRun}
@@ -25,12 +22,12 @@ use Rattle.syscall_layer.specs.declared.fault.RunFault.TheVariants as faults
 use Rattle.syscall_layer.proofs.Step.{nothing_sent, step_with}
 use Rattle.boundary_verify.specs.Cuts.{is_full}
 use Rattle.master_run.specs.Master.{limits_of}
-use Rattle.master_run.specs.Progress.{Advances, HasPollOf, IsAtCall, IsBeforePoll, IsBelow, IsOpen, IsQuiet, PlaysFrom, RunsOn, RunsOut, RunsTo}
+use Rattle.master_run.specs.Progress.{Advances, HasPollOf, IsAtCall, IsBeforePoll, IsBelow, IsOpen, PlaysFrom, RunsOn, RunsTo, TriedWithin}
 use Rattle.master_run.specs.declared.limits.Limits.{Limits}
 use Rattle.master_run.specs.declared.progress.Progress.{Progress}
 use Rattle.master_run.proofs.Advance.{plays_run}
 use Rattle.master_run.proofs.Full.{none_later}
-use Rattle.master_run.proofs.Telling.{runs_out, runs_run}
+use Rattle.master_run.proofs.Telling.{runs_run}
 
 -- one part after the other
 pub advances_more : (old mid new : Progress) → Advances old mid → Advances mid new → Advances old new
@@ -136,3 +133,18 @@ fault_before (faults.BudgetSpent n) old new same some = (omega (arith, same), om
 fault_before faults.InputFault old new same some = (omega (arith, same), omega (arith, same, some))
 fault_before (faults.OutputFault port) old new same some = (omega (arith, same), omega (arith, same, some))
 fault_before faults.NoMemory old new same some = tt
+
+pub fault_tried : (fault : RunFault) (old new : Progress) → new.position ≡ old.position → TriedWithin (old.position + 1) (Err fault) new.position
+fault_tried (faults.Unsupported number pc) old new same = omega (arith, same)
+fault_tried (faults.BudgetSpent n) old new same = tt
+fault_tried faults.InputFault old new same = omega (arith, same)
+fault_tried (faults.OutputFault port) old new same = omega (arith, same)
+fault_tried faults.NoMemory old new same = tt
+
+pub tried_within : (few more : ℕ) (r : Result (Option Rattle.rv_machine.specs.declared.step.End.End) RunFault) (position : ℕ) → few ≤ more → TriedWithin few r position → TriedWithin more r position
+tried_within few more (Ok ended) position le h = tt
+tried_within few more (Err (faults.Unsupported number pc)) position le h = omega (arith, le, h)
+tried_within few more (Err (faults.BudgetSpent n)) position le h = tt
+tried_within few more (Err faults.InputFault) position le h = omega (arith, le, h)
+tried_within few more (Err (faults.OutputFault port)) position le h = omega (arith, le, h)
+tried_within few more (Err faults.NoMemory) position le h = tt

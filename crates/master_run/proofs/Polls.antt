@@ -1,5 +1,5 @@
 -- When a pacer is asked, and what it answered.
-use Rattle.std.proofs.Common.{◌≡◌, ◌⊎◌, inl, inr, ℕ, zero, suc, ◌+◌, ◌-◌, ◌*◌, ◌/◌, ◌%◌, ◌^◌, ◌<◌, ◌≤◌, ◌||◌, Bool, true, false, refl, sym, ap, subst, ◌∙◌, add-one, arith}
+use Rattle.std.proofs.Common.{◌≡◌, ◌⊎◌, inl, inr, ℕ, zero, suc, ◌+◌, ◌-◌, ◌*◌, ◌/◌, ◌%◌, ◌^◌, ◌<◌, ◌≤◌, ◌||◌, Bool, true, false, refl, sym, ap, ◌∙◌, add-one, arith}
 use Rattle.std.specs.Prelude.{Option, None, Some, ◌==◌, ◌&&◌, nat_lt, if◌then◌else◌}
 use Rattle.std.specs.Option.{option_map}
 use Rattle.std.proofs.lemmas.Bool.{cases_lt}
@@ -7,9 +7,8 @@ use Rattle.std.proofs.lemmas.Bool.Decides.{nat_tests}
 use Rattle.std.proofs.Math.Nat.{div-lt_iff_lt-mul, suc-mul}
 use Rattle.std.proofs.lemmas.Nat.{div-add-mod', div-mul-add, mod-mul-add}
 use Rattle.sp_host.specs.Tally.{Tally, later_answers, tally_after}
-use Rattle.sp_host.specs.Told.{WhereTold}
 use Rattle.guest_model.specs.Serial.{Position, position_at}
-use Rattle.boundary_verify.specs.Cuts.{AreFirstCuts, CutLimits, HasNoCut, IsNextCut, granted_among, is_cut, is_full, is_paced}
+use Rattle.boundary_verify.specs.Cuts.{CutLimits, granted_among, is_cut, is_full, is_paced}
 use Rattle.master_run.specs.Answers.{HasAnswered, PacerState}
 use Rattle.master_run.specs.Progress.{IsAsked}
 

@@ -1,15 +1,15 @@
 -- Instructions that a guest makes at once, as steps of a run and of a play.
-use Rattle.std.proofs.Common.{◌≡◌, ◌⊎◌, inl, inr, ℕ, zero, suc, ◌+◌, ◌-◌, ◌<◌, ◌≤◌, List, [], ◌++◌, refl, sym, ap, subst, ◌∙◌, add-one, add-zero, add-suc, arith, append_assoc}
+use Rattle.std.proofs.Common.{◌≡◌, ◌⊎◌, inl, inr, ℕ, zero, suc, ◌+◌, ◌<◌, ◌≤◌, List, [], ◌++◌, refl, sym, ap, subst, ◌∙◌, add-zero, arith, append_assoc}
 use Rattle.std.proofs.lemmas.List.{append-nil}
 use Rattle.std.proofs.lemmas.Bool.{cases_lt}
 use Rattle.guest_model.specs.Effect.{Effect, Next, Call, Fault, effect_of, stored_by}
 use Rattle.guest_model.specs.Machine.{Machine}
-use Rattle.guest_model.specs.Play.{Halt, Script, Spot, play_of, play_step, play_by, spot, written_at, written_in_play, written_of}
+use Rattle.guest_model.specs.Play.{Halt, Script, Spot, play_of, play_step, play_by, spot, written_at, written_in_play}
 use Rattle.guest_model.specs.Range.{Range}
 use Rattle.guest_model.specs.Runs.{RunState, Running, Ended, after, along, here}
-use Rattle.guest_model.specs.Serial.{Position, End, entry_at, entry_by, run_of, sent_at, sent_by, step_by, step_of}
+use Rattle.guest_model.specs.Serial.{Position, entry_at, entry_by, sent_at, sent_by, step_by, step_of}
 use Rattle.guest_model.proofs.Runs.{after-next, after-zero, along-next, along-zero, last_step, running_same}
-use Rattle.rv_machine.specs.Ran.{machine_after, state_by, state_of, stored_along}
+use Rattle.rv_machine.specs.Ran.{machine_after, state_by, state_of}
 use Rattle.boundary_verify.specs.Cuts.{writes_at, writes_by}
 use Rattle.boundary_verify.specs.Job.{FitsAt}
 use Rattle.boundary_verify.proofs.Along.{along-one}

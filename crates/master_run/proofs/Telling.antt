@@ -1,6 +1,6 @@
 -- A part of a run that is told.
-use Rattle.std.proofs.Common.{◌≡◌, ◌⊎◌, inl, inr, ℕ, ◌+◌, ◌-◌, ◌^◌, ◌<◌, ◌≤◌, Bool, List, [], ◌∷◌, ◌++◌, map, refl, sym, ap, subst, ◌∙◌, arith}
-use Rattle.std.specs.Prelude.{Option, None, Some, Result, Ok, Err}
+use Rattle.std.proofs.Common.{◌≡◌, ℕ, ◌+◌, ◌-◌, ◌^◌, ◌≤◌, Bool, List, [], ◌∷◌, ◌++◌, map, refl, sym, ap, subst, ◌∙◌, arith}
+use Rattle.std.specs.Prelude.{Ok, Err}
 use Rattle.std.proofs.lemmas.List.{append-nil}
 use Rattle.sp_host.specs.Told.{Told}
 use Rattle.call_record.specs.Record.{CallRecord}
@@ -10,21 +10,21 @@ use Rattle.guest_model.specs.Effect.{Call, effect_of, stored_by}
 use Rattle.guest_model.specs.Machine.{Machine}
 use Rattle.guest_model.specs.Play.{range_of}
 use Rattle.guest_model.specs.Range.{Range}
-use Rattle.guest_model.specs.Runs.{RunState, Running, Ended, along, state_of}
+use Rattle.guest_model.specs.Runs.{RunState, Running, Ended, state_of}
 use Rattle.guest_model.specs.Serial.{End, EndsAt, Position, Unsupported, entries_of, entry_at, position_at, run_of, sent_at, sent_of, step_of}
 use Rattle.guest_model.proofs.Onward.{stops}
 use Rattle.guest_model.proofs.Runs.{after-next, along-next, running_earlier}
 use Rattle.guest_mem.specs.Frames.{marked_for_all}
 use Rattle.guest_mem.proofs.Ranges.{marked_for_all-append}
-use Rattle.rv_machine.specs.Ran.{machine_after, state_of as machine_state, stored_along}
+use Rattle.rv_machine.specs.Ran.{machine_after, stored_along}
 use Rattle.syscall_layer.specs.Serve.{PartWritten, told_after}
-use Rattle.syscall_layer.specs.Step.{CallGives, GoesByRecord, GoesOn, IsAt, StopsInput, StopsRun, world_of}
+use Rattle.syscall_layer.specs.Step.{CallGives, GoesByRecord, IsAt, StopsInput, StopsRun, world_of}
 use Rattle.syscall_layer.specs.declared.fault.RunFault.{RunFault}
 use Rattle.syscall_layer.specs.declared.fault.RunFault.TheVariants as faults
 use Rattle.syscall_layer.specs.declared.server.Served.TheVariants as served
 use Rattle.boundary_verify.specs.Cuts.{stored_ranges, writes_at, writes_by, writes_of}
 use Rattle.boundary_verify.proofs.Matches.{run_from}
-use Rattle.master_run.specs.Progress.{Leads, RunsInto, RunsOut, RunsShort, RunsTo}
+use Rattle.master_run.specs.Progress.{Leads, RunsOut, RunsShort, RunsTo}
 use Rattle.master_run.specs.declared.progress.Progress.{Progress}
 use Rattle.master_run.proofs.Stretch.{Carries, at_machine, carries, nothing_along, run_goes, run_records, run_sends, run_writes}
 

@@ -1,7 +1,7 @@
 -- A run from one cut on, poll by poll.
 use Rattle.std.proofs.Common.{◌≡◌, ◌⊎◌, inl, inr, ℕ, zero, suc, ◌+◌, ◌-◌, ◌*◌, ◌/◌, ◌%◌, ◌^◌, ◌<◌, ◌≤◌, ◌||◌, Bool, true, false, List, ◌++◌, length, refl, sym, ap, subst, ◌∙◌, arith}
 use Rattle.std.proofs.Math.Nat.{suc-mul}
-use Rattle.std.proofs.lemmas.Bool.{cases_Bool, cases_lt, true≢false}
+use Rattle.std.proofs.lemmas.Bool.{cases_Bool, cases_lt}
 use Rattle.std.proofs.lemmas.Nat.{mod-mul-add}
 use Rattle.sp_host.specs.Told.{Told}
 use Rattle.call_record.specs.Record.{CallRecord}
@@ -11,7 +11,7 @@ use Rattle.rv_machine.specs.Guest.{GuestState}
 use Rattle.boundary_verify.specs.Cuts.{HasNoCut, is_cut, is_full, is_paced}
 use Rattle.master_run.specs.Answers.{HasAnswered, PacerState}
 use Rattle.master_run.specs.Master.{limits_of}
-use Rattle.master_run.specs.Progress.{Advances, FindsCut, HasPollOf, IsAsked, IsBeforePoll, IsBelow, IsOpen, IsQuiet, IsSameButPoll, PlaysFrom, PlaysTo, LeadsTo, Polls, Reaches, RunsTo, Walks, script_with}
+use Rattle.master_run.specs.Progress.{Advances, FindsCut, HasPollOf, IsBeforePoll, IsBelow, IsOpen, IsQuiet, IsSameButPoll, PlaysFrom, PlaysTo, LeadsTo, Polls, Reaches, RunsTo, Walks, script_with}
 use Rattle.syscall_layer.specs.declared.fault.RunFault.{RunFault}
 use Rattle.syscall_layer.specs.declared.fault.RunFault.TheVariants as faults
 use Rattle.std.specs.Prelude.{Err}

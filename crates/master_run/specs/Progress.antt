@@ -1,12 +1,12 @@
 -- The run since the last cut.
-use Rattle.std.specs.Prelude.{◌≡◌, ℕ, zero, suc, ◌+◌, ◌-◌, ◌/◌, ◌%◌, ◌^◌, ◌<◌, ◌≤◌, Bool, true, false, List, [], ◌++◌, length, Option, None, Some, Result, Ok, Err}
+use Rattle.std.specs.Prelude.{◌≡◌, ℕ, zero, suc, ◌+◌, ◌-◌, ◌/◌, ◌%◌, ◌^◌, ◌<◌, ◌≤◌, Bool, true, false, List, ◌++◌, length, Option, None, Some, Result, Ok, Err}
 use Rattle.call_record.specs.Record.{CallRecord, size_of_records}
 use Rattle.cow_pages.specs.Marks.{count_marked, unmarked}
 use Rattle.sp_host.specs.Tally.{later_answers, tally_after}
 use Rattle.sp_host.specs.Told.{Told, WhereTold}
 use Rattle.guest_model.specs.Call.{Sent}
 use Rattle.guest_model.specs.Effect.{Effect, effect_of}
-use Rattle.guest_model.specs.Play.{Halt, Script, Spot, play_of, spot, written_of}
+use Rattle.guest_model.specs.Play.{Script, Spot, play_of, spot, written_of}
 use Rattle.guest_model.specs.Runs.{Running}
 use Rattle.guest_model.specs.Serial.{End as RunEnd, EndsAt, Position, Unsupported, entries_of, position_at, run_of, sent_at, sent_of}
 use Rattle.guest_mem.specs.Frames.{marked_for_all}
@@ -121,6 +121,15 @@ IsBeforePoll (Err (faults.BudgetSpent n)) old new = (old.position ≤ new.positi
 IsBeforePoll (Err faults.InputFault) old new = (old.position ≤ new.position) × (new.position < old.position + old.until_poll)
 IsBeforePoll (Err (faults.OutputFault port)) old new = (old.position ≤ new.position) × (new.position < old.position + old.until_poll)
 IsBeforePoll (Err faults.NoMemory) old new = Unit {0}
+
+-- a step that was not made is one of the budget
+abbrev pub TriedWithin : ℕ → Result (Option End) RunFault → ℕ → Type 0
+TriedWithin budget (Ok ended) position = Unit {0}
+TriedWithin budget (Err (faults.Unsupported number pc)) position = position < budget
+TriedWithin budget (Err (faults.BudgetSpent n)) position = Unit {0}
+TriedWithin budget (Err faults.InputFault) position = position < budget
+TriedWithin budget (Err (faults.OutputFault port)) position = position < budget
+TriedWithin budget (Err faults.NoMemory) position = Unit {0}
 
 -- the guest stands at the step that ends its run so
 abbrev pub StandsAtEnd : End → GuestState → Type 0

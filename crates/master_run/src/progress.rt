@@ -7,7 +7,7 @@ ghost use Rattle.guest_model.specs.Effect.{Effect, effect_of};
 ghost use Rattle.guest_model.specs.Serial.{Position};
 ghost use Rattle.syscall_layer.specs.Step.{IsOfGuest, run_source_of};
 ghost use Rattle.master_run.specs.Answers.{HasAnswered, PacerState};
-ghost use Rattle.master_run.specs.Progress.{Advances, CallsOrEnds, CutOrEnds, EndsOrGoesOn, HasPollOf, IsAtCall, IsBeforePoll, IsBelow, IsOpen, IsSameButPoll, Leads, LeadsTo, Polls, Reaches, RunsOn, RunsTo, tested_to};
+ghost use Rattle.master_run.specs.Progress.{Advances, CallsOrEnds, CutOrEnds, EndsOrGoesOn, HasPollOf, IsAtCall, IsBeforePoll, IsBelow, IsOpen, IsSameButPoll, Leads, LeadsTo, Polls, Reaches, RunsOn, RunsTo, TriedWithin, tested_to};
 
 use crate::limits::Limits;
 use call_record::RecordLog;
@@ -70,7 +70,9 @@ impl Progress {
         ensures ends { IfOk result (λ ended. CallsOrEnds ended self.old self.new) }
         ensures tested { tested_to result self.new.position ≤ self.old.position + 1 }
         ensures before { IsBeforePoll result self.old self.new }
+        ensures tried { TriedWithin (self.old.position + 1) result self.new.position }
         ensures within { self.new.position ≤ self.old.position + 1 }
+        ensures later { self.old.position ≤ self.new.position }
         ensures told { (t : Told) (p : Position) (b : ℕ) → b ≤ self.old.position →
             RunsTo t p b self.old (H.told host.old) →
             Leads t p b result self.new (H.told host.new) }
@@ -107,7 +109,9 @@ impl Progress {
         ensures poll { OnOk result (HasPollOf self.old self.new) }
         ensures ends { IfOk result (λ ended. EndsOrGoesOn limits.now ended self.old self.new) }
         ensures before { IsBeforePoll result self.old self.new }
+        ensures tried { TriedWithin limits.now.budget result self.new.position }
         ensures within { self.new.position ≤ limits.now.budget }
+        ensures later { self.old.position ≤ self.new.position }
         ensures told { (t : Told) (p : Position) (b : ℕ) → b ≤ self.old.position →
             RunsTo t p b self.old (H.told host.old) →
             LeadsTo limits.now t p b self.old result self.new (H.told host.new) }
@@ -165,7 +169,9 @@ impl Progress {
             (record { period = P.period_shown pacer.old; tally = P.tally pacer.old; answers = P.answers pacer.old })
             → Reaches limits.now t p self.old.position first answers result self.new (H.told host.new)
             (record { period = P.period_shown pacer.new; tally = P.tally pacer.new; answers = P.answers pacer.new }) }
+        ensures tried { TriedWithin limits.now.budget result self.new.position }
         ensures within { self.new.position ≤ limits.now.budget }
+        ensures later { self.old.position ≤ self.new.position }
         ensures faults { CausedIn run_source_of (H.faults host.old) (H.faults host.new) result }
         ensures port { IfErr result IsOfGuest }
         ensures period { P.period_shown pacer.new ≡ P.period_shown pacer.old }

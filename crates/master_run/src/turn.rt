@@ -1,12 +1,17 @@
 // One turn of a master: from one cut to the next.
-ghost use Rattle.std.specs.Prelude.{◌≡◌, ◌≤◌, IfErr, IfOk, length};
+ghost use Rattle.std.specs.Prelude.{◌≡◌, ◌+◌, ◌-◌, ◌<◌, ◌≤◌, ◌^◌, ◌++◌, [], ◌∷◌, ℕ, Bool, IfErr, IfOk, OnErr, OnOk, length};
 ghost use Rattle.sp_host.specs.Faults.{CausedIn};
 ghost use Rattle.sp_host.specs.Told.{Told};
+ghost use Rattle.cow_pages.specs.Marks.{count_marked, unmarked};
 ghost use Rattle.guest_model.specs.Serial.{Position};
+ghost use Rattle.guest_mem.specs.Memory.{IsChangedWithin, all_bytes, free_frames};
 ghost use Rattle.syscall_layer.specs.Step.{IsOfGuest, run_source_of};
+ghost use Rattle.boundary_verify.specs.Job.{IsJob};
+ghost use Rattle.boundary_verify.specs.declared.job.Boundary.TheVariants.{At, End};
 ghost use Rattle.master_run.specs.Answers.{PacerState};
 ghost use Rattle.master_run.specs.Inside.{IsAtStart, IsMaster, seen_of};
 ghost use Rattle.master_run.specs.Master.{HasRunTo};
+ghost use Rattle.master_run.specs.Progress.{IsOpen};
 ghost use Rattle.master_run.specs.Turn.{HandsOut, HandsOutOfRun};
 ghost use Rattle.master_run.specs.declared.master.Stage.{Stage};
 ghost use Rattle.master_run.specs.declared.master.Stage.TheVariants.{Over, Refused};
@@ -14,10 +19,36 @@ ghost use Rattle.master_run.specs.declared.master.Stage.TheVariants.{Over, Refus
 use crate::limits::Limits;
 use crate::master::{Stage, Turn};
 use crate::progress::Progress;
+use boundary_verify::{Boundary, Job};
 use rv_machine::Snapshot;
 use sp_host::{Host, Pacer};
-use std::alloc::Global;
+use std::alloc::{AllocError, Global};
 use syscall_layer::RunFault;
+
+// The state at a cut, twice: for the job that ends there, with the pages that were changed, and for the next one, of which none
+// is. The cut is noted.
+fn take_cut(
+    progress: &mut Progress,
+    cuts: &mut Vec<u64>,
+) -> Result<(Snapshot, Snapshot), AllocError>
+    ensures end { IfOk result (λ taken. (taken.0.machine ≡ progress.old.guest.machine)
+        × IsChangedWithin taken.0.changed progress.old.guest.origin taken.0.machine.space) }
+    ensures next { IfOk result (λ taken. taken.1.machine ≡ progress.old.guest.machine) }
+    ensures guest { OnOk result ((progress.new.guest.machine ≡ progress.old.guest.machine)
+        × (progress.new.guest.frames ≡ free_frames progress.old.guest.frames.count)
+        × (progress.new.guest.origin ≡ all_bytes progress.old.guest.machine.space)) }
+    ensures machine { progress.new.guest.machine ≡ progress.old.guest.machine }
+    ensures position { progress.new.position ≡ progress.old.position }
+    ensures calls { progress.new.calls ≡ progress.old.calls }
+    ensures poll { progress.new.until_poll ≡ progress.old.until_poll }
+    ensures log { progress.new.log ≡ progress.old.log }
+    ensures cuts { OnOk result (cuts.new.items ≡ cuts.old.items ++ progress.old.position ∷ []) }
+{
+    let end = progress.guest.snapshot()?;
+    let next = progress.guest.snapshot()?;
+    cuts.push(progress.position)?;
+    Ok((end, next))
+}
 
 /// Runs on to the next cut, or to the end of the run: how far it came, and what is handed out.
 pub(crate) fn make_turn<H: Host, P: Pacer>(
@@ -46,5 +77,40 @@ pub(crate) fn make_turn<H: Host, P: Pacer>(
         (seen_of limits.now progress.new cuts.new.items result.0) (H.told host.new)
         (record { period = P.period_shown pacer.new; tally = P.tally pacer.new; answers = P.answers pacer.new }) }
 {
-    (Stage::Refused(RunFault::NoMemory), Err(RunFault::NoMemory))
+    let index = cuts.len() as u64;
+    let position = progress.calls;
+    match progress.next_cut(alloc, limits, host, pacer) {
+        Ok(None) => {
+            let peak = progress.guest.space().written();
+            match take_cut(progress, cuts) {
+                Ok((end, next)) => {
+                    let job = Job {
+                        index,
+                        start,
+                        position,
+                        records: progress.log.cut(),
+                        end: Boundary::At {
+                            state: end,
+                            position: progress.calls,
+                        },
+                        peak,
+                    };
+                    (Stage::Ready(next), Ok(Turn::Job(job)))
+                }
+                Err(_) => (Stage::Refused(RunFault::NoMemory), Err(RunFault::NoMemory)),
+            }
+        }
+        Ok(Some(end)) => {
+            let job = Job {
+                index,
+                start,
+                position,
+                records: progress.log.cut(),
+                end: Boundary::End,
+                peak: progress.guest.space().written(),
+            };
+            (Stage::Over, Ok(Turn::Last(job, end)))
+        }
+        Err(fault) => (Stage::Refused(fault), Err(fault)),
+    }
 }

@@ -1,18 +1,13 @@
-use Rattle.std.proofs.Common.{ℕ, ◌≡◌, ◌≤◌, ◌+◌, ◌-◌, ◌∙◌, ap, arith, inr, subst, sym, refl}
-use Rattle.std.specs.Prelude.{Result, Ok, Err, Option, OnOk}
+use Rattle.std.proofs.Common.{◌+◌, arith, subst, refl}
 use Rattle.sp_host.specs.Told.{Told}
 use Rattle.guest_model.specs.Serial.{sent_of}
 use Rattle.guest_model.specs.Serial as serial
 use Rattle.rv_machine.specs.Step.{kind_number}
-use Rattle.rv_machine.specs.declared.step.End.{End}
 use Rattle.rv_machine.specs.declared.step.Stepped.{Stepped}
 use Rattle.rv_machine.specs.declared.step.Stepped.TheVariants as answers
-use Rattle.syscall_layer.specs.declared.fault.RunFault.{RunFault}
-use Rattle.master_run.specs.Progress.{Advances, RunsOn}
-use Rattle.master_run.specs.declared.progress.Progress.{Progress}
-use Rattle.master_run.proofs.Onwards.{advances_more, advances_run, at_call, fault_stops, goes_next, on_ok, quiet_run, runs_mid}
+use Rattle.master_run.specs.Progress.{RunsOn}
+use Rattle.master_run.proofs.Onwards.{advances_run, at_call, fault_stops, goes_next, on_ok, quiet_run, runs_mid, tried_within}
 use Rattle.master_run.proofs.Telling.{runs_out}
-use Rattle.master_run.proofs.Polls.{not_paced, before}
 use Rattle.master_run.proofs.progress.Progress.advance.Goals as goal
 
 pub call-requires-clause-open : goal.call-requires-clause-open
@@ -71,3 +66,8 @@ returns-in-Fault-clause-told g c t p b behind runs =
       runs_out t p b mid mid told told (serial.Signal (kind_number kind) c.pc.result) there (omega (arith, behind, h.later)) stops refl refl,
       λ s more within. quiet_run limits old mid (answers.Fault kind) h t p b told runs behind c.requires.below s more (omega (arith, within, h.later)) (omega arith) (omega arith),
     )
+
+pub returns-in-Call-clause-tried : goal.returns-in-Call-clause-tried
+returns-in-Call-clause-tried g c =
+    let h = subst (λ (a : Stepped). RunsOn c.args.limits.now c.args.self.now c.run_on.new.self a) c.in-Call.is c.run_on.ensures in
+    tried_within (c.run_on.new.self.position + 1) c.args.limits.now.budget c.call.result c.call.new.self.position (omega (arith, h.ran.stops.0, h.within, h.later)) c.call.ensures.tried

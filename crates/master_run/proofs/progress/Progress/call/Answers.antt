@@ -1,16 +1,16 @@
-use Rattle.std.proofs.Common.{ℕ, ◌≡◌, ◌≤◌, ◌+◌, ◌-◌, ◌∙◌, ap, arith, inr, subst, sym, refl}
-use Rattle.std.specs.Prelude.{Ok, Err}
+use Rattle.std.proofs.Common.{ℕ, ◌≡◌, ◌+◌, ◌-◌, arith, inr, subst, refl}
+use Rattle.std.specs.Prelude.{Ok}
 use Rattle.sp_host.specs.Told.{Told}
 use Rattle.call_playback.proofs.Records.{does_fit}
 use Rattle.guest_mem.proofs.Few.{few_for_step}
 use Rattle.guest_model.specs.Calls.{deed_of}
 use Rattle.guest_model.specs.Serial.{sent_of}
 use Rattle.guest_model.specs.Serial as serial
-use Rattle.syscall_layer.specs.Step.{CallGives, GoesByRecord, LeavesGuest}
+use Rattle.syscall_layer.specs.Step.{CallGives, LeavesGuest}
 use Rattle.syscall_layer.specs.declared.server.Served.{Served}
-use Rattle.syscall_layer.specs.declared.server.Served.TheVariants as served
 use Rattle.master_run.specs.declared.progress.Progress.{Progress}
 use Rattle.master_run.proofs.Advance.{goes_by, plays_call}
+use Rattle.master_run.proofs.Onwards.{fault_tried}
 use Rattle.master_run.proofs.Telling.{fails_here, runs_call, runs_out, stops_behind}
 use Rattle.master_run.proofs.progress.Progress.call.Goals as goal
 
@@ -65,3 +65,6 @@ returns-in-Err-clause-told g c t p b behind runs =
     let old = c.args.self.now in
     let now : Told = g.H.Host.told c.serve_step.new.host in
     fails_here t p b old (record old { guest = c.serve_step.new.guest }) (g.H.Host.told c.args.host.now) now c.in-Err.fault c.serve_step.new.guest.machine runs behind refl refl (c.in-Err.ensures.told t runs.position (sent_of old.position p) runs.machine runs.told_is)
+
+pub returns-in-Err-clause-tried : goal.returns-in-Err-clause-tried
+returns-in-Err-clause-tried g c = fault_tried c.in-Err.fault c.args.self.now (record c.args.self.now { guest = c.serve_step.new.guest }) refl

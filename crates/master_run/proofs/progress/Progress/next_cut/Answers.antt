@@ -1,12 +1,12 @@
-use Rattle.std.proofs.Common.{◌≡◌, ◌≤◌, ◌<◌, ℕ, Bool, true, false, inl, inr, arith, refl, sym, subst, ◌∙◌}
-use Rattle.std.specs.Prelude.{Option, None, Some, Ok, Err}
+use Rattle.std.proofs.Common.{inl, inr, arith, refl, sym, subst, ◌∙◌}
+use Rattle.std.specs.Prelude.{Option, Ok}
 use Rattle.std.proofs.lemmas.Bool.{true≢false}
 use Rattle.sp_host.specs.Told.{Told}
 use Rattle.rv_machine.specs.declared.step.End.{End}
 use Rattle.master_run.specs.Answers.{PacerState}
-use Rattle.master_run.specs.Progress.{EndsOrGoesOn, IsBeforePoll, IsBelow, IsOpen, LeadsTo, Reaches}
+use Rattle.master_run.specs.Progress.{EndsOrGoesOn, IsBeforePoll, IsBelow, LeadsTo}
 use Rattle.master_run.proofs.Onwards.{advances_more}
-use Rattle.master_run.proofs.Walks.{Turned, Walking, advances_same, begins_walk, fault_reached, finds, goes_on, open_more, period_kept, stops_walk, turned}
+use Rattle.master_run.proofs.Walks.{Turned, Walking, advances_same, fault_reached, finds, goes_on, open_more, period_kept, stops_walk, turned}
 use Rattle.master_run.proofs.progress.Progress.next_cut.Goals.{then-due-via-then-due, then-due-via-else-due+then-is_full}
 use Rattle.master_run.proofs.progress.Progress.next_cut.Goals as goal
 
@@ -21,8 +21,7 @@ returns-then-due-clause-ends g c =
     let new = c.poll-due.new.self in
     let ends = subst (λ (o : Option End). EndsOrGoesOn limits o c.run.self mid) c.in-Ok-None.field-0-is c.in-Ok-None.ensures.ends in
     let now : PacerState = record { period = g.P.Pacer.period_shown c.run.pacer; tally = g.P.Pacer.tally c.run.pacer; answers = g.P.Pacer.answers c.run.pacer } in
-    let later : PacerState = record { period = g.P.Pacer.period_shown c.poll-due.new.pacer; tally = g.P.Pacer.tally c.poll-due.new.pacer; answers = g.P.Pacer.answers c.poll-due.new.pacer } in
-    (
+    let later : PacerState = record { period = g.P.Pacer.period_shown c.poll-due.new.pacer; tally = g.P.Pacer.tally c.poll-due.new.pacer; answers = g.P.Pacer.answers c.poll-due.new.pacer } in (
       open_more limits c.run.self mid new c.poll-due.result now later mid.until_poll c.run.invariant.going c.in-Ok-None.ensures.goes c.in-Ok-None.ensures.poll ends.1 refl c.poll-due.ensures.same c.poll-due.ensures.polls,
       omega (arith, ends.0, c.run.invariant.goes.not_less, c.poll-due.ensures.same.position),
     )
@@ -42,7 +41,7 @@ returns-then-due-clause-told g c t p first answers runs answered =
     let ends = subst (λ (o : Option End). EndsOrGoesOn limits o old mid) c.in-Ok-None.field-0-is c.in-Ok-None.ensures.ends in
     let leads = subst (λ (o : Option End). LeadsTo limits t p b old (Ok o) mid later_told) c.in-Ok-None.field-0-is (c.in-Ok-None.ensures.told t p b w.behind w.runs) in
     let turn : Turned limits t p b first answers c.poll-due.result new later_told later =
-        turned limits t p b first answers old mid new told later_told now later c.poll-due.result mid.until_poll c.run.invariant.going w leads.0 leads.1 ends.0 c.in-Ok-None.ensures.poll refl c.poll-due.ensures.same c.poll-due.ensures.polls in
+    turned limits t p b first answers old mid new told later_told now later c.poll-due.result mid.until_poll c.run.invariant.going w leads.0 leads.1 ends.0 c.in-Ok-None.ensures.poll refl c.poll-due.ensures.same c.poll-due.ensures.polls in
     finds limits t p b first answers new later_told later c.poll-due.result turn (elim c.then-due.branch [
       | then-due-via-then-due via ↦ inl via.if-due.true
       | then-due-via-else-due+then-is_full via ↦ inr (λ below. absurd (true≢false (sym via.if-is_full.true ∙ via.is_full.ensures.1 below)))
@@ -71,7 +70,7 @@ run-preserved g c =
           let w : Walking limits t p b first answers old told now = c.run.invariant.walking t p first answers runs answered in
           let leads = subst (λ (o : Option End). LeadsTo limits t p b old (Ok o) mid later_told) c.in-Ok-None.field-0-is (c.in-Ok-None.ensures.told t p b w.behind w.runs) in
           let turn : Turned limits t p b first answers c.poll-due.result new later_told later =
-              turned limits t p b first answers old mid new told later_told now later c.poll-due.result mid.until_poll c.run.invariant.going w leads.0 leads.1 ends.0 c.in-Ok-None.ensures.poll refl c.poll-due.ensures.same c.poll-due.ensures.polls in
+          turned limits t p b first answers old mid new told later_told now later c.poll-due.result mid.until_poll c.run.invariant.going w leads.0 leads.1 ends.0 c.in-Ok-None.ensures.poll refl c.poll-due.ensures.same c.poll-due.ensures.polls in
           goes_on limits t p b first answers new later_told later c.poll-due.result turn c.if-due.false below;
     }
 

@@ -1,4 +1,4 @@
-use Rattle.std.proofs.Common.{◌≡◌, ◌≤◌, ◌-◌, ◌/◌, ℕ, Bool}
+use Rattle.std.proofs.Common.{◌≡◌, ◌-◌, ◌/◌, ℕ, Bool}
 use Rattle.sp_host.specs.Told.{Told}
 use Rattle.guest_model.specs.Serial.{Position}
 use Rattle.master_run.specs.Answers.{HasAnswered, PacerState}
