@@ -143,6 +143,7 @@ module _ (limits : Limits) (t : Told) (p : Position) (first : PacerState) where
       → HandsOutOfRun t p first m (Err fault) (seen_of limits new cuts (stages.Refused fault)) later shown
   fault_hands old new cuts m told later now shown h (faults.Unsupported number pc) same bound tried le reaches = record {
     ends = reaches.1.ends;
+    within = tried;
     told_is = reaches.1.told_is;
     all = all_cuts old new cuts m told now shown h (ap (λ (k : MasterState). k.position) same) (ap (λ (k : MasterState). k.cuts) same) (ap (λ (k : MasterState). k.limits) same) le reaches.0 new.guest.machine (seen.Refused (faults.Unsupported number pc));
   }

@@ -15,7 +15,7 @@ use Rattle.boundary_verify.specs.Cuts.{AreCuts}
 use Rattle.boundary_verify.specs.Job.{JobFields, Lasts, boundary_of, path_of}
 use Rattle.boundary_verify.specs.Path.{At, AtEnd, last_path, path_between}
 use Rattle.master_run.specs.Answers.{HasAnswered, PacerState}
-use Rattle.master_run.specs.Master.{HasRunTo, MasterState, limits_of}
+use Rattle.master_run.specs.Master.{HasRunTo, MasterState, Over, Ready, limits_of}
 use Rattle.master_run.specs.declared.master.Turn.{Turn}
 use Rattle.master_run.specs.declared.master.Turn.TheVariants.{Job, Last}
 
@@ -34,6 +34,7 @@ pub record EndsAtCut (old : MasterState) (job : JobFields) (new : MasterState) :
   pub within : new.position ≤ old.limits.budget
   pub end : boundary_of job.end ≡ At (spot new.machine new.calls)
   pub cuts : new.cuts ≡ old.cuts ++ new.position ∷ []
+  pub ready : new.standing ≡ Ready
 
 -- the job ends with the run, the last position of which is now the master's
 pub record EndsWithRun (old : MasterState) (job : JobFields) (new : MasterState) : Type 0 where
@@ -42,6 +43,7 @@ pub record EndsWithRun (old : MasterState) (job : JobFields) (new : MasterState)
   pub within : new.position < old.limits.budget
   pub end : boundary_of job.end ≡ AtEnd
   pub cuts : new.cuts ≡ old.cuts
+  pub over : new.standing ≡ Over
 
 -- whatever the host is
 abbrev pub HandsOut : MasterState → Turn → MasterState → Type 0
@@ -57,6 +59,7 @@ pub record HasAllCuts (p : Position) (first : PacerState) (new : MasterState) (n
 -- the run ended so, by the step from the master's position
 pub record RunIsOver (t : Told) (p : Position) (first : PacerState) (end : End) (new : MasterState) (told : Told) (now : PacerState) : Type 0 where
   pub ends : EndsAt p new.position end
+  pub within : new.position < new.limits.budget
   pub told_is : told ≡ told_after t (position_at new.position p).world (sent_of (new.position + 1) p)
   pub all : HasAllCuts p first new now
 

@@ -72,6 +72,7 @@ returns-in-Ok-clause-turn g c =
       within = omega (arith, ends.0.within, place);
       end = λ i. paths.At (spot ((machine ∙ sym c.take_cut.ensures.machine) i) c.take_cut.new.progress.calls);
       cuts = c.in-Ok.ensures.cuts ∙ ap (λ (x : ℕ). c.args.cuts.now.items ++ x ∷ []) (sym place);
+      ready = refl;
     }
 
 pub returns-in-Ok-clause-told : goal.returns-in-Ok-clause-told
@@ -183,6 +184,7 @@ returns-in-Ok-Some-clause-turn g c =
       within = ends.0;
       end = refl;
       cuts = refl;
+      over = refl;
     }
 
 pub returns-in-Ok-Some-clause-told : goal.returns-in-Ok-Some-clause-told
@@ -209,6 +211,7 @@ returns-in-Ok-Some-clause-told g c t p first h =
     let reaches = subst (λ (o : Option GuestEnd). Reaches limits t p old.position first h.answers (Ok o) new later shown) c.in-Ok-Some.field-0-is (c.in-Ok-Some.ensures.told t p first h.answers runs h.answered) in (
       record {
         ends = reaches.1.ends;
+        within = ends.0;
         told_is = reaches.1.told_is;
         all = all_cuts limits t p first old new c.args.cuts.now.items (seen_of limits old c.args.cuts.now.items Over) told now shown h refl refl refl goes.not_less reaches.0 new.guest.machine seen.Over;
       },
