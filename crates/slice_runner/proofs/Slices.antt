@@ -323,6 +323,7 @@ module _ {T L S : Type 0} (stands : List Event → L → Type 0) (plan : PlanFie
         exact = record { begun = omega arith; met = subst (λ (b : Boundary). Meets b (path_after path (k + 1))) (sym end) there; least = least_so_far path k played.unmatched };
         index = is.index;
         local = is.local_is (trace_events plan (path_trace path (k + 1))) heard.local_is;
+        few = heard.few;
         steps = is.steps_are ∙ sym (count_of_trace path k s true played.there played.items (has_instruction path.script s (spot new.machine later) turn.plays));
         calls = is.calls_are ∙ ap (λ (x : RunState Spot Halt). (state_of x).calls - job.position) (sym there);
         hits = subst (λ (h : Hits). AreHitsOf path (k + 1) (counts_of h)) (sym is.hits_are) tested.counted;
@@ -357,6 +358,7 @@ module _ {T L S : Type 0} (stands : List Event → L → Type 0) (plan : PlanFie
             exact = record { begun = omega arith; met = end.0; least = least_so_far path k played.unmatched };
             index = is.index;
             local = is.local_is (trace_events plan (path_trace path (k + 1))) heard.local_is;
+            few = heard.few;
             steps = is.steps_are ∙ sym (count_of_trace path k s has played.there played.items (ap (λ (q : Spot). is_some (instruction_at q.machine)) (sym same) ∙ there));
             calls = is.calls_are ∙ ap (λ (q : Spot). q.calls - job.position) (same ∙ sym h) ∙ ap (λ (x : RunState Spot Halt). (state_of x).calls - job.position) (sym over);
             hits = subst (λ (h : Hits). AreHitsOf path (k + 1) (counts_of h)) (sym is.hits_are) (end.1 tested.counted);

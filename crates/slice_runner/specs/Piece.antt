@@ -1,5 +1,5 @@
 -- What a slice gives.
-use Rattle.std.specs.Prelude.{◌≡◌, ℕ, ◌-◌, List, length}
+use Rattle.std.specs.Prelude.{◌≡◌, ◌≤◌, ℕ, ◌-◌, ◌*◌, List, length}
 use Rattle.guest_model.specs.Runs.{state_of}
 use Rattle.guest_model.specs.Tests.{HitCounts}
 use Rattle.insert_points.specs.Plan.{PlanFields}
@@ -15,12 +15,13 @@ abbrev pub counts_of : Hits → HitCounts
 counts_of hits = record { quick = hits.quick; registers = hits.registers; stack = hits.stack; whole = hits.whole }
 
 -- the piece is that of the job's path up to its match, which is at some distance: the local stands for the events of the path's trace, and the numbers
--- are those of its instructions, of its calls, and of the positions that pass the tests
+-- are those of its instructions, of its calls, and of the positions that pass the tests. A step has at most 24 events
 pub record IsPieceOf {T L S : Type 0} (stands : List Event → L → Type 0) (plan : PlanFields) (job : JobFields) (piece : Piece T L S) : Type 0 where
   pub distance : ℕ
   pub exact : IsMatch (path_of job) distance
   pub index : piece.index ≡ job.index
   pub local : stands (trace_events plan (path_trace (path_of job) distance)) piece.local
+  pub few : length (trace_events plan (path_trace (path_of job) distance)) ≤ 24 * distance
   pub steps : piece.steps ≡ length (path_trace (path_of job) distance)
   pub calls : piece.calls ≡ (state_of (path_after (path_of job) distance)).calls - job.position
   pub hits : AreHitsOf (path_of job) distance (counts_of piece.hits)

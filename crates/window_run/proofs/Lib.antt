@@ -1,0 +1,6 @@
+pub mod Addresses
+pub mod Ending
+pub mod Filling
+pub mod Going
+pub mod Lists
+pub mod Merging
