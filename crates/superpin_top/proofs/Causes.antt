@@ -12,13 +12,14 @@ use Rattle.sp_report.specs.declared.answer.Refusal.{Refusal}
 use Rattle.sp_report.specs.declared.answer.Refusal.TheVariants as refusals
 use Rattle.syscall_layer.specs.declared.fault.RunFault.{RunFault}
 use Rattle.syscall_layer.specs.declared.fault.RunFault.TheVariants as faults
-use Rattle.serial_run.specs.Faults.{IsOfGuest as IsRunGuests, source_of as run_source}
+use Rattle.syscall_layer.specs.Step.{IsOfGuest as IsRunGuests, run_source_of as run_source}
 use Rattle.superpin_top.specs.Causes.{cause_of, refusal_of_run, IsOfGuest, CausedBy}
 use Rattle.superpin_top.specs.Top.{IsLate}
 use Rattle.superpin_top.specs.Outcome.{WritesLine}
 
 -- a refusal without a cause, where no count rose
 pub calm : (refusal : Refusal) (f : Faults) → cause_of refusal ≡ None → CausedBy refusal f f
+calm (refusals.Usage kind) f e = (refl, tt)
 calm refusals.FileFault f e = cc
 calm refusals.FileTooLarge f e = (refl, tt)
 calm (refusals.Elf fault) f e = (refl, tt)
@@ -181,6 +182,7 @@ with_cause s refusals.FileFault guests e = let same : File ≡ s = cc in subst (
 with_cause s refusals.InputFault guests e = let same : Input ≡ s = cc in subst (λ (k : Source). refusals.InputFault ≡ refusal_with k) same refl
 with_cause s (refusals.OutputFault port) guests e = let same : To port ≡ s = cc in subst (λ (k : Source). refusals.OutputFault port ≡ refusal_with k) same (sym (port_refusal port guests))
 with_cause s refusals.ReportFault guests e = let same : To Report ≡ s = cc in subst (λ (k : Source). refusals.ReportFault ≡ refusal_with k) same refl
+with_cause s (refusals.Usage kind) guests e = cc
 with_cause s refusals.FileTooLarge guests e = cc
 with_cause s (refusals.Elf fault) guests e = cc
 with_cause s (refusals.ArgsTooLong bytes) guests e = cc

@@ -14,8 +14,9 @@ use Rattle.guest_model.specs.Runs.{RunState, Running, Ended, after, along}
 use Rattle.guest_model.specs.Serial.{Position, End, Exit, Signal, Unsupported, TraceItem, bytes_to, to_port, step_of, sent_at, run_of, sent_of, trace_of}
 use Rattle.guest_model.proofs.Runs.{along-add, along-next}
 use Rattle.syscall_layer.specs.Serve.{InputPart, PartWritten, told_after}
+use Rattle.syscall_layer.specs.Step.{StopsInput, world_of}
 use Rattle.serial_run.specs.Run.{StepBefore}
-use Rattle.serial_run.specs.Steps.{StopsInput, WantsMemory, world_of}
+use Rattle.serial_run.specs.Steps.{WantsMemory}
 use Rattle.superpin_top.specs.Start.{Run, steps_of}
 use Rattle.superpin_top.specs.Due.{Due, due_state, due_run}
 use Rattle.superpin_top.specs.Outcome.{AddsFront}

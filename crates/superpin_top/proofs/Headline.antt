@@ -10,6 +10,7 @@ use Rattle.sp_host.proofs.Told.{appended-nil}
 use Rattle.guest_model.specs.Call.{World, Sent}
 use Rattle.guest_model.specs.Runs.{RunState, Running, Ended as RunEnded}
 use Rattle.guest_model.specs.Serial.{Position, End, Exit, Signal, Unsupported, TraceItem, run_of, sent_of, trace_of}
+use Rattle.ordered_merge.specs.declared.merger.SliceLine.{SliceLine}
 use Rattle.sp_report.specs.Lines.{refusal_line}
 use Rattle.sp_report.specs.View.{view_text}
 use Rattle.sp_report.specs.declared.answer.Answer.{Answer}
@@ -42,14 +43,14 @@ due_delivered t d refusal before middle now mid new is line_is same writes can n
     inr (sym is.answer_is, writes.told_is ∙ (ap (sent_to ports.Report writes.line) is.told_is ∙ (delivered_report t d writes.line ∙ ap (delivered t d) all)))
 
 -- the line of a refusal that is due is the due report
-line_of_end : (end : End) (report : List ℕ) (sent : List Sent) (w : World) (refusal : Refusal) → (due_ended end report sent w).answer ≡ Refused refusal → (due_ended end report sent w).report ≡ refusal_line refusal
-line_of_end (Exit status) report sent w refusal h = cc
-line_of_end (Signal kind pc) report sent w refusal h = cc
-line_of_end (Unsupported number pc) report sent w refusal h = let e : refusals.UnsupportedCall number pc ≡ refusal = cc in ap refusal_line e
+line_of_end : (end : End) (lines : List SliceLine) (report : List ℕ) (sent : List Sent) (w : World) (refusal : Refusal) → (due_ended end lines report sent w).answer ≡ Refused refusal → (due_ended end lines report sent w).report ≡ refusal_line refusal
+line_of_end (Exit status) lines report sent w refusal h = cc
+line_of_end (Signal kind pc) lines report sent w refusal h = cc
+line_of_end (Unsupported number pc) lines report sent w refusal h = let e : refusals.UnsupportedCall number pc ≡ refusal = cc in ap refusal_line e
 
 line_of_state : (r : Run) (state : RunState Position End) (items : List TraceItem) (sent : List Sent) (refusal : Refusal) → (due_state r state items sent).answer ≡ Refused refusal → (due_state r state items sent).report ≡ refusal_line refusal
 line_of_state r (Running p) items sent refusal h = let e : refusals.BudgetSpent r.budget ≡ refusal = cc in ap refusal_line e
-line_of_state r (RunEnded p end) items sent refusal h = line_of_end end _ sent p.world refusal h
+line_of_state r (RunEnded p end) items sent refusal h = line_of_end end _ _ sent p.world refusal h
 
 line_due : (task : Result Task Refusal) (w : World) (refusal : Refusal) → (due_task task w).answer ≡ Refused refusal → (due_task task w).report ≡ refusal_line refusal
 line_due (Err early) w refusal h = let e : early ≡ refusal = cc in ap refusal_line e
@@ -74,7 +75,8 @@ port_below ports.Report before can = can.report
 
 headline_of : (t : Told) (task : Result Task Refusal) (w : World) (before now : Faults) (answer : Answer) (new : Told)
     → Outcome t task w before answer new now → CanRise before → now ≡ before → IsDelivered t (due_task task w) answer new
-headline_of t task w before now (Ended status cuts) new o can none = inr (sym o.0, o.1)
+headline_of t task w before now (Ended status cuts lines) new o can none = inr (sym o.0, o.1)
+headline_of t task w before now (Refused (refusals.Usage kind)) new o can none = due_is t task w before now (refusals.Usage kind) new o o.refuses o.caused.0 can none
 headline_of t task w before now (Refused refusals.FileTooLarge) new o can none = due_is t task w before now refusals.FileTooLarge new o o.refuses o.caused.0 can none
 headline_of t task w before now (Refused (refusals.Elf fault)) new o can none = due_is t task w before now (refusals.Elf fault) new o o.refuses o.caused.0 can none
 headline_of t task w before now (Refused (refusals.ArgsTooLong bytes)) new o can none = due_is t task w before now (refusals.ArgsTooLong bytes) new o o.refuses o.caused.0 can none
@@ -95,19 +97,16 @@ headline_of t task w before now (Refused refusals.NoMemory) new o can none = inl
 caused_due : (d : Due) (refusal : Refusal) (before now : Faults) → d.answer ≡ Refused refusal → refusal ≢ refusals.ReportFault → IsCaused d before now (Refused refusal)
 caused_due d refusal before now is other = record {
   refused = λ r due. ((λ e. is ∙ e), λ e. sym is ∙ e);
-  reported = λ status e. absurd (never (sym e ∙ is));
+  reported = λ status lines e. absurd (never (sym e ∙ is));
   no_report = λ e. absurd (other (cc));
 }
   where
-    never : {status : ℕ} → Ended status [] ≡ Refused refusal → ⊥
+    never : {status : ℕ} {lines : List SliceLine} → Ended status [] lines ≡ Refused refusal → ⊥
     never e = cc
 
 -- a run that ended is no refusal that is due, and a report fault is none
-ended_none : (d : Due) (status : ℕ) (r : Refusal) → d.answer ≡ Ended status [] → d.answer ≡ Refused r → ⊥
-ended_none d status r is e = let both : Ended status [] ≡ Refused r = sym is ∙ e in cc
-
-never_ended : (d : Due) (status : ℕ) (cuts : List ℕ) (r : Refusal) → d.answer ≡ Ended status cuts → d.answer ≡ Refused r → ⊥
-never_ended d status cuts r is e = let both : Ended status cuts ≡ Refused r = sym is ∙ e in cc
+never_ended : (d : Due) (status : ℕ) (cuts : List ℕ) (lines : List SliceLine) (r : Refusal) → d.answer ≡ Ended status cuts lines → d.answer ≡ Refused r → ⊥
+never_ended d status cuts lines r is e = let both : Ended status cuts lines ≡ Refused r = sym is ∙ e in cc
 
 report_none : (r : Refusal) → (is_early r || is_of_run r) ≡ true → Refused refusals.ReportFault ≡ Refused r → ⊥
 report_none r due e =
@@ -126,11 +125,12 @@ port_none ports.Report before now other none = absurd (other refl)
 
 causes_of : (t : Told) (task : Result Task Refusal) (w : World) (before now : Faults) (answer : Answer) (new : Told)
     → Outcome t task w before answer new now → CanRise before → NoneRose before now → answer ≢ Refused refusals.NoMemory → IsCaused (due_task task w) before now answer
-causes_of t task w before now (Ended status cuts) new o can none some = record {
-  refused = λ r due. ((λ e. cc), λ e. absurd (never_ended (due_task task w) status cuts r o.0 e));
-  reported = λ other e. (((λ _. ap (λ (f : Faults). f.report) o.2), λ _. sym o.0 ∙ e), ((λ h. cc), λ rose. absurd (omega (arith, rose, ap (λ (f : Faults). f.report) o.2))));
+causes_of t task w before now (Ended status cuts lines) new o can none some = record {
+  refused = λ r due. ((λ e. cc), λ e. absurd (never_ended (due_task task w) status cuts lines r o.0 e));
+  reported = λ other others e. (((λ _. ap (λ (f : Faults). f.report) o.2), λ _. sym o.0 ∙ e), ((λ h. cc), λ rose. absurd (omega (arith, rose, ap (λ (f : Faults). f.report) o.2))));
   no_report = λ e. cc;
 }
+causes_of t task w before now (Refused (refusals.Usage kind)) new o can none some = caused_due (due_task task w) (refusals.Usage kind) before now o.refuses.answer_is (λ e. cc)
 causes_of t task w before now (Refused refusals.FileTooLarge) new o can none some = caused_due (due_task task w) refusals.FileTooLarge before now o.refuses.answer_is (λ e. cc)
 causes_of t task w before now (Refused (refusals.Elf fault)) new o can none some = caused_due (due_task task w) (refusals.Elf fault) before now o.refuses.answer_is (λ e. cc)
 causes_of t task w before now (Refused (refusals.ArgsTooLong bytes)) new o can none some = caused_due (due_task task w) (refusals.ArgsTooLong bytes) before now o.refuses.answer_is (λ e. cc)
@@ -147,9 +147,9 @@ causes_of t task w before now (Refused refusals.NoMemory) new o can none some = 
 causes_of t task w before now (Refused refusals.ReportFault) new o can none some =
     let rose : before.report < now.report = omega (arith, rose_by (To ports.Report) before o.middle o.caused.0 can.report, line_report refusals.ReportFault o.mid new o.middle now o.writes) in
     record {
-      refused = λ r due. ((λ e. absurd (report_none r due e)), λ e. absurd (ended_none (due_task task w) o.refuses.0 r o.refuses.1 e));
-      reported = λ status e. (((λ h. cc), λ same. absurd (omega (arith, rose, same))), ((λ _. rose), λ _. refl));
-      no_report = λ _. (o.refuses.0, o.refuses.1);
+      refused = λ r due. ((λ e. absurd (report_none r due e)), λ e. absurd (never_ended (due_task task w) o.refuses.0.0 [] o.refuses.0.1 r o.refuses.0.2 e));
+      reported = λ status lines e. (((λ h. cc), λ same. absurd (omega (arith, rose, same))), ((λ _. rose), λ _. refl));
+      no_report = λ _. o.refuses.0;
     }
 
 -- what was sent is a beginning of what is due
@@ -177,6 +177,7 @@ part_shown t mid text w part = record {
 
 fronts_before : (t : Told) (task : Result Task Refusal) (w : World) (refusal : Refusal) (mid : Told) → Refuses t task w refusal mid → AddsFronts t (due_task task w) mid
 fronts_before t task w refusals.FileFault mid refuses = nothing_sent t mid (due_task task w) refuses
+fronts_before t task w (refusals.Usage kind) mid refuses = all_sent t mid (due_task task w) [] refuses.told_is
 fronts_before t task w refusals.FileTooLarge mid refuses = all_sent t mid (due_task task w) [] refuses.told_is
 fronts_before t task w (refusals.Elf fault) mid refuses = all_sent t mid (due_task task w) [] refuses.told_is
 fronts_before t task w (refusals.ArgsTooLong bytes) mid refuses = all_sent t mid (due_task task w) [] refuses.told_is
@@ -187,16 +188,16 @@ fronts_before t task w refusals.InputFault mid refuses = of_task t mid task w re
 fronts_before t task w (refusals.OutputFault port) mid (inl ran) = of_task t mid task w ran.0 ran.1 (output_fronts t mid (run_of_program ran.0 w) port ran.2)
 fronts_before t task w (refusals.OutputFault port) mid (inr text) = subst (λ (k : Result Task Refusal). AddsFronts t (due_task k w) mid) (sym text.1) (part_shown t mid (view_text text.0) w text.2.1)
 fronts_before t task w refusals.ReportFault mid refuses = record {
-  out = record { written = (due_task task w).out; rest = []; is_front = append-nil (due_task task w).out; told_is = ap (λ (q : Told). q.out) refuses.2.sends };
-  err = record { written = (due_task task w).err; rest = []; is_front = append-nil (due_task task w).err; told_is = ap (λ (q : Told). q.err) refuses.2.sends };
+  out = record { written = (due_task task w).out; rest = []; is_front = append-nil (due_task task w).out; told_is = ap (λ (q : Told). q.out) refuses.1.sends };
+  err = record { written = (due_task task w).err; rest = []; is_front = append-nil (due_task task w).err; told_is = ap (λ (q : Told). q.err) refuses.1.sends };
 }
 fronts_before t task w refusals.NoMemory mid (inl same) = nothing_sent t mid (due_task task w) same
 fronts_before t task w refusals.NoMemory mid (inr (inl step)) = of_task t mid task w step.0 step.1 (memory_fronts t mid step.0.tool.grows (run_of_program step.0 w) step.2)
-fronts_before t task w refusals.NoMemory mid (inr (inr ran)) = of_task t mid task w ran.0 ran.1 (all_sent t mid (due_run (run_of_program ran.0 w)) [] ran.2.2)
+fronts_before t task w refusals.NoMemory mid (inr (inr ran)) = of_task t mid task w ran.0 ran.1 (all_sent t mid (due_run (run_of_program ran.0 w)) [] ran.2.1)
 
 fronts_of : (t : Told) (task : Result Task Refusal) (w : World) (before now : Faults) (answer : Answer) (new : Told)
     → Outcome t task w before answer new now → AddsFronts t (due_task task w) new
-fronts_of t task w before now (Ended status cuts) new o = all_sent t new (due_task task w) (due_task task w).report o.1
+fronts_of t task w before now (Ended status cuts lines) new o = all_sent t new (due_task task w) (due_task task w).report o.1
 fronts_of t task w before now (Refused refusal) new o =
     let fronts = fronts_before t task w refusal o.mid o.refuses in
     record {
@@ -236,6 +237,7 @@ late_differs refusal r late early e = let same : refusal ≡ r = cc in let both 
 pub early_of : (task : Result Task Refusal) (refusal : Refusal) → IsDecided task (Err refusal) → refusal ≢ refusals.FileFault → refusal ≢ refusals.NoMemory → IsEarly task (Refused refusal)
 early_of task refusals.FileFault decided some found r early = absurd (some refl)
 early_of task refusals.NoMemory decided some found r early = absurd (found refl)
+early_of task (refusals.Usage kind) decided some found r early = decided_one task (refusals.Usage kind) r decided
 early_of task refusals.FileTooLarge decided some found r early = decided_one task refusals.FileTooLarge r decided
 early_of task (refusals.Elf fault) decided some found r early = decided_one task (refusals.Elf fault) r decided
 early_of task (refusals.ArgsTooLong bytes) decided some found r early = decided_one task (refusals.ArgsTooLong bytes) r decided
@@ -246,5 +248,5 @@ early_of task refusals.InputFault decided some found r early = decided_none task
 early_of task (refusals.OutputFault port) decided some found r early = decided_none task _ r decided (late_differs (refusals.OutputFault port) r refl early)
 early_of task refusals.ReportFault decided some found r early = decided_none task _ r decided (late_differs refusals.ReportFault r refl early)
 
-pub early_ended : (task : Result Task Refusal) (status : ℕ) (cuts : List ℕ) → IsAccepted task → IsEarly task (Ended status cuts)
-early_ended task status cuts accepted r early = decided_none task (Ended status cuts) r accepted (λ e. cc)
+pub early_ended : (task : Result Task Refusal) (status : ℕ) (cuts : List ℕ) (lines : List SliceLine) → IsAccepted task → IsEarly task (Ended status cuts lines)
+early_ended task status cuts lines accepted r early = decided_none task (Ended status cuts lines) r accepted (λ e. cc)

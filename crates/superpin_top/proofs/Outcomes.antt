@@ -1,5 +1,5 @@
 -- From what the parts answer to what is due.
-use Rattle.std.proofs.Common.{inl, inr, ◌≡◌, ℕ, List, [], refl, ap, sym, subst, ◌∙◌}
+use Rattle.std.proofs.Common.{inl, inr, ◌≡◌, ℕ, List, [], ◌∷◌, refl, ap, sym, subst, ◌∙◌}
 use Rattle.std.specs.Prelude.{Bool, Option, Some, Ok, Err, Result}
 use Rattle.sp_host.specs.Told.{Told, appended, sent as sent_to, PartSent}
 use Rattle.sp_host.specs.declared.host.Port.TheVariants.{Out, Report}
@@ -8,6 +8,7 @@ use Rattle.guest_model.specs.Call.{World}
 use Rattle.guest_model.specs.Machine.{Machine}
 use Rattle.guest_model.specs.Runs.{RunState, Running, Ended as RunEnded}
 use Rattle.guest_model.specs.Serial.{Position, End, Exit, Signal, Unsupported, run_of, sent_of, trace_of}
+use Rattle.ordered_merge.specs.declared.merger.SliceLine.{SliceLine}
 use Rattle.rv_machine.specs.Load.{machine_of}
 use Rattle.rv_machine.specs.Step.{kind_number, status_of}
 use Rattle.rv_machine.specs.declared.step.End.{End as GuestEnd}
@@ -21,12 +22,13 @@ use Rattle.sp_report.specs.declared.answer.Answer.TheVariants.{Ended, Refused}
 use Rattle.sp_report.specs.declared.answer.Refusal.{Refusal}
 use Rattle.sp_report.specs.declared.answer.Refusal.TheVariants as refusals
 use Rattle.superpin_top.specs.Causes.{refusal_of_run}
-use Rattle.serial_run.specs.Run.{EndsAt, RunFails, RunLacks}
+use Rattle.serial_run.specs.Run.{EndsAt, RunFails, RunLacks, whole_line}
 use Rattle.serial_run.specs.Start.{start_of}
 use Rattle.superpin_top.specs.Start.{Run, steps_of}
 use Rattle.superpin_top.specs.Report.{report_of}
 use Rattle.superpin_top.specs.Due.{Due, Program, Task, Runs, due_refused, due_run, due_shown, due_state, run_of_program, delivered}
 use Rattle.superpin_top.specs.Outcome.{IsDue, OfText, Refuses, AttemptGives}
+use Rattle.superpin_top.specs.declared.run.Done.{Done}
 
 -- where the input and the moments are told, a run begins here
 pub at_begin : (t : Told) (w : World) → t.input ≡ Some w.input → t.moments ≡ Some w.moments → t ≡ told_after t w []
@@ -62,6 +64,7 @@ early t new refusal w input moments same = record {
 
 -- of those that are due
 abbrev IsEarlyRefusal : Refusal → Type 0
+IsEarlyRefusal (refusals.Usage kind) = Unit {0}
 IsEarlyRefusal refusals.FileTooLarge = Unit {0}
 IsEarlyRefusal (refusals.Elf fault) = Unit {0}
 IsEarlyRefusal (refusals.ArgsTooLong bytes) = Unit {0}
@@ -69,6 +72,7 @@ IsEarlyRefusal refusals.NotBuilt = Unit {0}
 IsEarlyRefusal refusal = ⊥
 
 refused_early : (t new : Told) (refusal : Refusal) (w : World) → IsEarlyRefusal refusal → t.input ≡ Some w.input → t.moments ≡ Some w.moments → new ≡ t → Refuses t (Err refusal) w refusal new
+refused_early t new (refusals.Usage kind) w is input moments same = early t new (refusals.Usage kind) w input moments same
 refused_early t new refusals.FileTooLarge w is input moments same = early t new refusals.FileTooLarge w input moments same
 refused_early t new (refusals.Elf fault) w is input moments same = early t new (refusals.Elf fault) w input moments same
 refused_early t new (refusals.ArgsTooLong bytes) w is input moments same = early t new (refusals.ArgsTooLong bytes) w input moments same
@@ -101,11 +105,11 @@ spent_refuses t new n grows r gives =
     }
 
 -- a run that ended, whatever its report
-pub record IsOver (t : Told) (d : Due) (end : GuestEnd) (new : Told) : Type 0 where
-  pub answer_is : d.answer ≡ Ended (status_of end) []
+pub record IsOver (t : Told) (d : Due) (end : GuestEnd) (lines : List SliceLine) (new : Told) : Type 0 where
+  pub answer_is : d.answer ≡ Ended (status_of end) [] lines
   pub told_is : new ≡ delivered t d []
 
-over_by : (t new : Told) (r : Run) (last : Position) (end : GuestEnd) → EndsAt t (steps_of r) last (end_by end) new → IsOver t (due_run r) end new
+over_by : (t new : Told) (r : Run) (last : Position) (end : GuestEnd) → EndsAt t (steps_of r) last (end_by end) new → IsOver t (due_run r) end (whole_line (trace_of r.budget r.start) last ∷ []) new
 over_by t new r last (ends.Exit status) ended =
     let is = due_at r (RunEnded last (Exit status)) ended.stands in
     record { answer_is = ap (λ (q : Due). q.answer) is; told_is = told_due t (due_run r) (due_state r (RunEnded last (Exit status)) (trace_of r.budget r.start) (sent_of r.budget r.start)) new is ended.told_is }
@@ -124,7 +128,7 @@ lacks_refuses t new p w input moments (inl told) = inl (told ∙ sym (at_begin t
 lacks_refuses t new p w input moments (inr (inl step)) = inr (inl (p, refl, step))
 lacks_refuses t new p w input moments (inr (inr (last, end, ended))) =
     let over = over_by t new (run_of_program p w) last end ended in
-    inr (inr (p, refl, (status_of end, over.answer_is, over.told_is)))
+    inr (inr (p, refl, ((status_of end, _, over.answer_is), over.told_is)))
 
 pub run_refuses : (t new : Told) (p : Program) (w : World) (fault : RunFault) → t.input ≡ Some w.input → t.moments ≡ Some w.moments → RunFails p.tool.grows t (steps_of (run_of_program p w)) fault new
     → Refuses t (Ok (Runs p)) w (refusal_of_run fault) new
@@ -135,33 +139,32 @@ run_refuses t new p w (faults.OutputFault port) input moments gives = inl (p, re
 run_refuses t new p w faults.NoMemory input moments gives = lacks_refuses t new p w input moments gives
 
 -- a run that ended, before its report
-pub record IsFinished (t : Told) (d : Due) (end : GuestEnd) (text : List ℕ) (new : Told) : Type 0 where
-  pub answer_is : d.answer ≡ Ended (status_of end) []
+pub record IsFinished (t : Told) (d : Due) (end : GuestEnd) (lines : List SliceLine) (text : List ℕ) (new : Told) : Type 0 where
+  pub answer_is : d.answer ≡ Ended (status_of end) [] lines
   pub report_is : d.report ≡ report_of text (end_by end)
   pub told_is : new ≡ delivered t d []
 
-pub finishes : (t new : Told) (r : Run) (last : Position) (end : GuestEnd) → EndsAt t (steps_of r) last (end_by end) new → IsFinished t (due_run r) end (r.tool.text (trace_of r.budget r.start)) new
+pub finishes : (t new : Told) (r : Run) (last : Position) (end : GuestEnd) → EndsAt t (steps_of r) last (end_by end) new → IsFinished t (due_run r) end (whole_line (trace_of r.budget r.start) last ∷ []) (r.tool.text (trace_of r.budget r.start)) new
 finishes t new r last end ended =
     let over = over_by t new r last end ended in
     record { answer_is = over.answer_is; report_is = report_by r last end ended.stands; told_is = over.told_is }
 
-pub no_room : (t : Told) (p : Program) (w : World) (end : GuestEnd) (text : List ℕ) (mid : Told) → IsFinished t (due_run (run_of_program p w)) end text mid → Refuses t (Ok (Runs p)) w refusals.NoMemory mid
-no_room t p w end text mid done = inr (inr (p, refl, (status_of end, done.answer_is, done.told_is)))
+pub no_room : (t : Told) (p : Program) (w : World) (end : GuestEnd) (lines : List SliceLine) (text : List ℕ) (mid : Told) → IsFinished t (due_run (run_of_program p w)) end lines text mid → Refuses t (Ok (Runs p)) w refusals.NoMemory mid
+no_room t p w end lines text mid done = inr (inr (p, refl, ((status_of end, lines, done.answer_is), done.told_is)))
 
-pub reported : (t : Told) (p : Program) (w : World) (end : GuestEnd) (mid new : Told) (text whole : List ℕ) (status : ℕ) → IsFinished t (due_run (run_of_program p w)) end text mid → whole ≡ report_of text (end_by end)
-    → new ≡ sent_to Report whole mid → status ≡ status_of end → AttemptGives t (Ok (Runs p)) w (Ok status) new
-reported t p w end mid new text whole status done is wrote status_is =
+pub reported : (t : Told) (p : Program) (w : World) (end : GuestEnd) (mid new : Told) (lines : List SliceLine) (text whole : List ℕ) (answer : Done) → IsFinished t (due_run (run_of_program p w)) end lines text mid
+    → whole ≡ report_of text (end_by end) → new ≡ sent_to Report whole mid → answer.status ≡ status_of end → answer.lines ≡ lines → AttemptGives t (Ok (Runs p)) w (Ok answer) new
+reported t p w end mid new lines text whole answer done is wrote status_is lines_are =
     let d = due_run (run_of_program p w) in (
-      done.answer_is ∙ ap (λ (n : ℕ). Ended n []) (sym status_is),
+      done.answer_is ∙ (ap (λ (n : ℕ). Ended n [] lines) (sym status_is) ∙ ap (λ (ls : List SliceLine). Ended answer.status [] ls) (sym lines_are)),
       wrote ∙ (ap (sent_to Report whole) done.told_is ∙ (delivered_report t d whole ∙ ap (delivered t d) (is ∙ sym done.report_is))),
     )
 
-pub not_reported : (t : Told) (p : Program) (w : World) (end : GuestEnd) (mid new : Told) (text whole : List ℕ) → IsFinished t (due_run (run_of_program p w)) end text mid → whole ≡ report_of text (end_by end)
+pub not_reported : (t : Told) (p : Program) (w : World) (end : GuestEnd) (mid new : Told) (lines : List SliceLine) (text whole : List ℕ) → IsFinished t (due_run (run_of_program p w)) end lines text mid → whole ≡ report_of text (end_by end)
     → PartSent Report whole mid new → Refuses t (Ok (Runs p)) w refusals.ReportFault new
-not_reported t p w end mid new text whole done is wrote =
+not_reported t p w end mid new lines text whole done is wrote =
     let d = due_run (run_of_program p w) in (
-      status_of end,
-      done.answer_is,
+      (status_of end, lines, done.answer_is),
       subst (λ (q : Told). PartSent Report d.report q new) done.told_is (subst (λ (xs : List ℕ). PartSent Report xs mid new) (is ∙ sym done.report_is) wrote),
     )
 
@@ -177,9 +180,10 @@ shown_delivered t text w input moments =
     ∙ ap (λ (o : Option (List ℕ)). record t { input = Some w.input; moments = Some w.moments; out = appended t.out text; err = o }) (sym (appended-nil t.err))
     ∙ ap (λ (o : Option (List ℕ)). record t { input = Some w.input; moments = Some w.moments; out = appended t.out text; err = appended t.err []; report = o }) (sym (appended-nil t.report))
 
-pub shown : (t new : Told) (task : Result Task Refusal) (text : List ℕ) (w : World) → OfText task (λ due. text ≡ due) → t.input ≡ Some w.input → t.moments ≡ Some w.moments → new ≡ sent_to Out text t → AttemptGives t task w (Ok 0) new
+pub shown : (t new : Told) (task : Result Task Refusal) (text : List ℕ) (w : World) → OfText task (λ due. text ≡ due) → t.input ≡ Some w.input → t.moments ≡ Some w.moments → new ≡ sent_to Out text t
+    → AttemptGives t task w (Ok (record { status = 0; lines = [] })) new
 shown t new task text w of input moments wrote =
-    subst (λ (k : Result Task Refusal). AttemptGives t k w (Ok 0) new) (sym of.1)
+    subst (λ (k : Result Task Refusal). AttemptGives t k w (Ok (record { status = 0; lines = [] })) new) (sym of.1)
     (refl, wrote ∙ (ap (λ (xs : List ℕ). sent_to Out xs t) of.2 ∙ shown_delivered t (view_text of.0) w input moments))
 
 pub not_shown : (t new : Told) (task : Result Task Refusal) (text : List ℕ) (w : World) → OfText task (λ due. text ≡ due) → PartSent Out text t new → Refuses t task w (refusals.OutputFault Out) new

@@ -22,6 +22,7 @@ use Rattle.superpin_top.specs.Words.{Asked, ToRun, ToView, Request, asked, asked
 use Rattle.superpin_top.specs.Due.{Task, Runs, Shows, task_in, task_of, task_of_asked, task_of_file, task_of_tested}
 use Rattle.superpin_top.specs.Outcome.{IsAccepted, IsDecided, Refuses}
 use Rattle.superpin_top.specs.Top.{ImageGives, IsBefore, IsLate, LoadGives, ReadGives, TextGives}
+use Rattle.superpin_top.specs.declared.run.Done.{Done}
 use Rattle.superpin_top.specs.declared.top.Loaded.{Loaded}
 use Rattle.superpin_top.proofs.Outcomes.{refused_before}
 
@@ -60,6 +61,7 @@ tested_shown file name image none same = ap (λ (o : Option ElfFault). task_of_t
 pub tested_unread : (file : List ℕ) (a : Asked) (refusal : Refusal) → ImageGives file (Err refusal) → IsBefore (task_of_tested (refusal_of file) file a) refusal
 tested_unread file a (refusals.Elf fault) gives = tested_fault file fault a gives
 tested_unread file a refusals.NoMemory gives = tt
+tested_unread file a (refusals.Usage kind) gives = absurd gives
 tested_unread file a refusals.FileFault gives = absurd gives
 tested_unread file a refusals.FileTooLarge gives = absurd gives
 tested_unread file a (refusals.ArgsTooLong bytes) gives = absurd gives
@@ -86,6 +88,7 @@ large_file file a lt = ap (λ (b : Bool). if b then Err refusals.FileTooLarge el
     is_yes false e = grind (arith, nat_tests)
 
 pub ready_unread : (file : List ℕ) (a : Asked) (refusal : Refusal) → ReadGives file (Err refusal) → IsBefore (task_of_file file a) refusal
+ready_unread file a (refusals.Usage kind) gives = absurd gives
 ready_unread file a refusals.FileFault gives = tt
 ready_unread file a refusals.FileTooLarge gives = large_file file a gives
 ready_unread file a refusals.NoMemory gives = tt
@@ -138,6 +141,7 @@ attempt_none t new words files w none input moments same = refused_before t new 
 -- a refusal before a run, or before a text is written
 pub unready : (t new : Told) (task : Result Task Refusal) (w : World) (refusal : Refusal) → IsBefore task refusal → t.input ≡ Some w.input → t.moments ≡ Some w.moments → new ≡ t
     → Refuses t task w refusal new
+unready t new task w (refusals.Usage kind) gives input moments same = absurd gives
 unready t new task w refusals.FileFault gives input moments same = same
 unready t new task w refusals.FileTooLarge gives input moments same = refused_before t new task refusals.FileTooLarge w tt gives input moments same
 unready t new task w (refusals.Elf fault) gives input moments same = refused_before t new task (refusals.Elf fault) w tt gives input moments same
@@ -152,6 +156,7 @@ unready t new task w refusals.ReportFault gives input moments same = absurd give
 
 -- and what that decides
 pub unready_decides : (task : Result Task Refusal) (refusal : Refusal) → IsBefore task refusal → IsDecided task (Err refusal)
+unready_decides task (refusals.Usage kind) gives = absurd gives
 unready_decides task refusals.FileFault gives = tt
 unready_decides task refusals.FileTooLarge gives = gives
 unready_decides task (refusals.Elf fault) gives = gives
@@ -165,8 +170,9 @@ unready_decides task (refusals.OutputFault port) gives = absurd gives
 unready_decides task refusals.ReportFault gives = absurd gives
 
 -- a run that began decides nothing but that its program was accepted
-pub ran_decides : (task : Result Task Refusal) (r : Result ℕ Refusal) → IsAccepted task → ((refusal : Refusal) → r ≡ Err refusal → IsLate refusal) → IsDecided task r
-ran_decides task (Ok status) accepted late = accepted
+pub ran_decides : (task : Result Task Refusal) (r : Result Done Refusal) → IsAccepted task → ((refusal : Refusal) → r ≡ Err refusal → IsLate refusal) → IsDecided task r
+ran_decides task (Ok done) accepted late = accepted
+ran_decides task (Err (refusals.Usage kind)) accepted late = absurd (late (refusals.Usage kind) refl)
 ran_decides task (Err refusals.FileFault) accepted late = tt
 ran_decides task (Err refusals.NoMemory) accepted late = tt
 ran_decides task (Err refusals.FileTooLarge) accepted late = absurd (late refusals.FileTooLarge refl)

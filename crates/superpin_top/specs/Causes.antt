@@ -25,6 +25,7 @@ refusal_of_run runs.NoMemory = refusals.NoMemory
 -- the count that the cause of a refusal raised: that of files, of the input, of a port that the guest can write to, of the
 -- report; the other refusals come where no count rose
 abbrev pub cause_of : Refusal → Option Source
+cause_of (refusals.Usage kind) = None
 cause_of refusals.FileFault = Some File
 cause_of refusals.FileTooLarge = None
 cause_of (refusals.Elf fault) = None
@@ -47,6 +48,7 @@ CausedBy refusal before now = Caused (cause_of refusal) before now × IsOfGuest 
 
 -- the refusals that the words and the file alone decide
 abbrev pub is_early : Refusal → Bool
+is_early (refusals.Usage kind) = true
 is_early refusals.FileTooLarge = true
 is_early (refusals.Elf fault) = true
 is_early (refusals.ArgsTooLong bytes) = true

@@ -1,5 +1,5 @@
 -- The due answer: what the words, the files, the input and the moments alone determine.
-use Rattle.std.specs.Prelude.{ℕ, ◌+◌, ◌-◌, ◌^◌, List, [], length, nat_lt, min, slice_index_or, Option, None, Some, Result, Ok, Err, if◌then◌else◌}
+use Rattle.std.specs.Prelude.{ℕ, ◌+◌, ◌-◌, ◌^◌, List, [], ◌∷◌, length, nat_lt, min, slice_index_or, Option, None, Some, Result, Ok, Err, if◌then◌else◌}
 use Rattle.sp_host.specs.Told.{Told, Files, file_of, appended}
 use Rattle.sp_host.specs.Whole.{most_file}
 use Rattle.elf_load.specs.Elf.{refusal_of, image_of}
@@ -9,6 +9,7 @@ use Rattle.guest_model.specs.Call.{World, Sent}
 use Rattle.guest_model.specs.Runs.{RunState, Running, Ended as RunEnded}
 use Rattle.guest_model.specs.Serial.{Position, End, Exit, Signal, Unsupported, TraceItem, bytes_to, run_of, sent_of, trace_of}
 use Rattle.guest_model.specs.declared.platform.TheConstants.{MOST_STRINGS}
+use Rattle.ordered_merge.specs.declared.merger.SliceLine.{SliceLine}
 use Rattle.rv_machine.specs.Load.{machine_of, strings_size}
 use Rattle.sp_report.specs.View.{view_text}
 use Rattle.sp_report.specs.Lines.{refusal_line}
@@ -17,6 +18,7 @@ use Rattle.sp_report.specs.declared.answer.Answer.TheVariants.{Ended, Refused}
 use Rattle.sp_report.specs.declared.answer.Refusal.{Refusal}
 use Rattle.sp_report.specs.declared.answer.Refusal.TheVariants as refusals
 use Rattle.superpin_top.specs.Words.{Asked, ToRun, ToView, asked}
+use Rattle.serial_run.specs.Run.{whole_line}
 use Rattle.serial_run.specs.Start.{start_of}
 use Rattle.superpin_top.specs.Report.{report_of}
 use Rattle.superpin_top.specs.Start.{Run, ToolMeaning}
@@ -87,25 +89,26 @@ run_of_program p w = record { tool = p.tool; start = start_of (machine_of p.imag
 abbrev pub due_refused : Refusal → List Sent → World → Due
 due_refused refusal sent left = record { answer = Refused refusal; out = bytes_to 1 sent; err = bytes_to 2 sent; report = refusal_line refusal; left = left }
 
-abbrev pub due_reported : ℕ → List ℕ → List Sent → World → Due
-due_reported status report sent left = record { answer = Ended status []; out = bytes_to 1 sent; err = bytes_to 2 sent; report = report; left = left }
+abbrev pub due_reported : ℕ → List SliceLine → List ℕ → List Sent → World → Due
+due_reported status lines report sent left = record { answer = Ended status [] lines; out = bytes_to 1 sent; err = bytes_to 2 sent; report = report; left = left }
 
 -- the status of a run that ended: that of its exit, or 128 and the number of its signal
-abbrev pub due_ended : End → List ℕ → List Sent → World → Due
-due_ended (Exit status) report sent left = due_reported status report sent left
-due_ended (Signal kind pc) report sent left = due_reported (128 + kind) report sent left
-due_ended (Unsupported number pc) report sent left = due_refused (refusals.UnsupportedCall number pc) sent left
+abbrev pub due_ended : End → List SliceLine → List ℕ → List Sent → World → Due
+due_ended (Exit status) lines report sent left = due_reported status lines report sent left
+due_ended (Signal kind pc) lines report sent left = due_reported (128 + kind) lines report sent left
+due_ended (Unsupported number pc) lines report sent left = due_refused (refusals.UnsupportedCall number pc) sent left
 
+-- a run that ended was one slice: its line has the instructions that were tried and the calls that went on, and four zeros
 abbrev pub due_state : Run → RunState Position End → List TraceItem → List Sent → Due
 due_state r (Running p) items sent = due_refused (refusals.BudgetSpent r.budget) sent p.world
-due_state r (RunEnded p end) items sent = due_ended end (report_of (r.tool.text items) end) sent p.world
+due_state r (RunEnded p end) items sent = due_ended end (whole_line items p ∷ []) (report_of (r.tool.text items) end) sent p.world
 
 abbrev pub due_run : Run → Due
 due_run r = due_state r (run_of r.budget r.start) (trace_of r.budget r.start) (sent_of r.budget r.start)
 
--- what is due where a text is shown
+-- what is due where a text is shown; no program ran, and there is no line
 abbrev pub due_shown : List ℕ → World → Due
-due_shown text left = record { answer = Ended 0 []; out = text; err = []; report = []; left = left }
+due_shown text left = record { answer = Ended 0 [] []; out = text; err = []; report = []; left = left }
 
 abbrev pub due_task : Result Task Refusal → World → Due
 due_task (Err refusal) w = due_refused refusal [] w

@@ -6,7 +6,9 @@ use Rattle.sp_host.specs.declared.host.Port.TheVariants.{Out, Report}
 use Rattle.elf_load.specs.Image.{ImageFields}
 use Rattle.guest_model.specs.Call.{World}
 use Rattle.guest_model.specs.Serial.{sent_at}
+use Rattle.ordered_merge.specs.declared.merger.SliceLine.{SliceLine}
 use Rattle.syscall_layer.specs.Serve.{PartWritten}
+use Rattle.syscall_layer.specs.Step.{StopsInput}
 use Rattle.sp_report.specs.Lines.{refusal_line}
 use Rattle.sp_report.specs.View.{view_text}
 use Rattle.sp_report.specs.declared.answer.Answer.{Answer}
@@ -14,10 +16,11 @@ use Rattle.sp_report.specs.declared.answer.Answer.TheVariants.{Ended, Refused}
 use Rattle.sp_report.specs.declared.answer.Refusal.{Refusal}
 use Rattle.sp_report.specs.declared.answer.Refusal.TheVariants as refusals
 use Rattle.serial_run.specs.Run.{StepBefore}
-use Rattle.serial_run.specs.Steps.{StopsInput, WantsMemory}
+use Rattle.serial_run.specs.Steps.{WantsMemory}
 use Rattle.superpin_top.specs.Start.{Run, steps_of}
 use Rattle.superpin_top.specs.Due.{Due, Program, Task, Runs, Shows, delivered, due_run, due_task, run_of_program}
 use Rattle.superpin_top.specs.Causes.{CausedBy, is_early, is_of_run}
+use Rattle.superpin_top.specs.declared.run.Done.{Done}
 
 -- holds of the files and of the input and moments left, where they are told
 abbrev pub WhereAllTold : Told → (Files → World → Type 0) → Type 0
@@ -27,6 +30,10 @@ WhereAllTold t P = (files : Files) (w : World) → t.files ≡ Some files → t.
 pub record IsDue (t : Told) (d : Due) (answer : Answer) (new : Told) : Type 0 where
   pub answer_is : d.answer ≡ answer
   pub told_is : new ≡ delivered t d []
+
+-- a run that ended is due, with a status, no cuts and its lines
+abbrev pub IsEndDue : Due → Type 0
+IsEndDue d = (status : ℕ) × (lines : List SliceLine) × (d.answer ≡ Ended status [] lines)
 
 -- what is to be done is this run
 abbrev pub OfRun : Result Task Refusal → World → (Run → Type 0) → Type 0
@@ -51,15 +58,15 @@ Refuses t task w (refusals.OutputFault port) new =
     (OfRun task w (λ r. StepBefore (steps_of r) (λ q before. PartWritten t q.world before port (sent_at q) new)))
     ⊎ (OfText task (λ text. (port ≡ Out) × PartSent Out text t new))
 Refuses t task w refusals.ReportFault new =
-    (status : ℕ) × ((due_task task w).answer ≡ Ended status []) × PartSent Report (due_task task w).report (delivered t (due_task task w) []) new
+    IsEndDue (due_task task w) × PartSent Report (due_task task w).report (delivered t (due_task task w) []) new
 Refuses t task w refusals.NoMemory new =
     (new ≡ t)
     ⊎ (OfRun task w (λ r. StepBefore (steps_of r) (λ q before. WantsMemory r.tool.grows t q before new))
-    ⊎ OfRun task w (λ r. (status : ℕ) × ((due_run r).answer ≡ Ended status []) × (new ≡ delivered t (due_run r) [])))
+    ⊎ OfRun task w (λ r. IsEndDue (due_run r) × (new ≡ delivered t (due_run r) [])))
 Refuses t task w refusal new = IsDue t (due_task task w) (Refused refusal) new
 
-abbrev pub AttemptGives : Told → Result Task Refusal → World → Result ℕ Refusal → Told → Type 0
-AttemptGives t task w (Ok status) new = ((due_task task w).answer ≡ Ended status []) × (new ≡ delivered t (due_task task w) (due_task task w).report)
+abbrev pub AttemptGives : Told → Result Task Refusal → World → Result Done Refusal → Told → Type 0
+AttemptGives t task w (Ok done) new = ((due_task task w).answer ≡ Ended done.status [] done.lines) × (new ≡ delivered t (due_task task w) (due_task task w).report)
 AttemptGives t task w (Err refusal) new = Refuses t task w refusal new
 
 -- the line of a refusal was written, or a proper beginning of it where the count of Report rose
@@ -80,8 +87,8 @@ pub record IsRefused (t : Told) (task : Result Task Refusal) (w : World) (refusa
 
 -- the outcome
 abbrev pub Outcome : Told → Result Task Refusal → World → Faults → Answer → Told → Faults → Type 0
-Outcome t task w before (Ended status cuts) new now =
-    ((due_task task w).answer ≡ Ended status cuts) × (new ≡ delivered t (due_task task w) (due_task task w).report) × (now ≡ before)
+Outcome t task w before (Ended status cuts lines) new now =
+    ((due_task task w).answer ≡ Ended status cuts lines) × (new ≡ delivered t (due_task task w) (due_task task w).report) × (now ≡ before)
 Outcome t task w before (Refused refusal) new now = IsRefused t task w refusal before new now
 
 -- each count can still rise
@@ -108,10 +115,11 @@ abbrev pub IsAccepted : Result Task Refusal → Type 0
 IsAccepted task = (accepted : Task) × (task ≡ Ok accepted)
 
 -- what the words and the file decide of an attempt; where the file could not be read, or memory was wanting, nothing
-abbrev pub IsDecided : Result Task Refusal → Result ℕ Refusal → Type 0
-IsDecided task (Ok status) = IsAccepted task
+abbrev pub IsDecided : Result Task Refusal → Result Done Refusal → Type 0
+IsDecided task (Ok done) = IsAccepted task
 IsDecided task (Err refusals.FileFault) = Unit {0}
 IsDecided task (Err refusals.NoMemory) = Unit {0}
+IsDecided task (Err (refusals.Usage kind)) = task ≡ Err (refusals.Usage kind)
 IsDecided task (Err refusals.FileTooLarge) = task ≡ Err refusals.FileTooLarge
 IsDecided task (Err (refusals.Elf fault)) = task ≡ Err (refusals.Elf fault)
 IsDecided task (Err (refusals.ArgsTooLong bytes)) = task ≡ Err (refusals.ArgsTooLong bytes)
@@ -120,7 +128,7 @@ IsDecided task (Err _) = IsAccepted task
 
 -- a status is answered only where no count rose
 abbrev pub IsEndedWhereNone : Answer → Faults → Faults → Type 0
-IsEndedWhereNone (Ended status cuts) before now = (now ≡ before) × (cuts ≡ [])
+IsEndedWhereNone (Ended status cuts lines) before now = (now ≡ before) × (cuts ≡ [])
 IsEndedWhereNone (Refused refusal) before now = Unit {0}
 
 -- a refusal that the words and the file decide comes exactly where they do
@@ -129,15 +137,15 @@ IsEarly task answer = (refusal : Refusal) → is_early refusal ≡ true → (ans
 
 -- where a run that ended is answered as such, and where as a fault of its report
 abbrev pub IsReported : Due → ℕ → ℕ → Answer → Type 0
-IsReported d before now answer = (status : ℕ) → d.answer ≡ Ended status [] →
-    ((answer ≡ Ended status []) ↔ (now ≡ before)) × ((answer ≡ Refused refusals.ReportFault) ↔ (before < now))
+IsReported d before now answer = (status : ℕ) (lines : List SliceLine) → d.answer ≡ Ended status [] lines →
+    ((answer ≡ Ended status [] lines) ↔ (now ≡ before)) × ((answer ≡ Refused refusals.ReportFault) ↔ (before < now))
 
 -- The cause of every answer, where memory was found and no call of the run failed: it is the due one, but for a report
 -- fault, which comes exactly where the run ended and the count of Report rose.
 pub record IsCaused (d : Due) (before now : Faults) (answer : Answer) : Type 0 where
   pub refused : (refusal : Refusal) → (is_early refusal || is_of_run refusal) ≡ true → (answer ≡ Refused refusal) ↔ (d.answer ≡ Refused refusal)
   pub reported : IsReported d before.report now.report answer
-  pub no_report : answer ≡ Refused refusals.ReportFault → (status : ℕ) × (d.answer ≡ Ended status [])
+  pub no_report : answer ≡ Refused refusals.ReportFault → IsEndDue d
 
 -- a beginning of these bytes was added, where told
 pub record AddsFront (old : Option (List ℕ)) (bytes : List ℕ) (new : Option (List ℕ)) : Type 0 where

@@ -50,6 +50,7 @@ TextGives task (Err refusal) = IsBefore task refusal
 
 -- a refusal of a run that began
 abbrev pub IsLate : Refusal → Type 0
+IsLate (refusals.Usage kind) = ⊥
 IsLate refusals.FileFault = ⊥
 IsLate refusals.FileTooLarge = ⊥
 IsLate (refusals.Elf fault) = ⊥

@@ -18,12 +18,19 @@ use ins_views::Views;
 use rv_machine::Guest;
 use serial_run::{MOST_BUDGET, run_serial};
 use sp_host::{Host, Port, write_whole};
-use sp_report::Refusal;
+use sp_report::{Lines, Refusal};
 use std::alloc::Global;
 use syscall_layer::RunFault;
 use tool_calls::CallTrace;
 use tool_counts::{BlockCount, BlockProfile, InsCount, OpMix};
 use tool_law::{Tool, make_plan};
+
+/// A command that was done: its status, and the lines of its run.
+#[derive(Drop)]
+pub(crate) struct Done {
+    pub(crate) status: u8,
+    pub(crate) lines: Lines,
+}
 
 // The refusal of a fault of the run.
 fn refusal_of_run(fault: RunFault) -> Refusal
@@ -46,7 +53,7 @@ fn run_with<T: Tool, H: Host>(
     guest: Guest,
     budget: u64,
     tool: &T,
-) -> Result<u8, Refusal>
+) -> Result<Done, Refusal>
     requires frames { MOST_PAGES ≤ guest.frames.count }
     requires budget { budget ≤ MOST_BUDGET }
     ensures told { (w : World) (strings : List (List ℕ))
@@ -78,7 +85,10 @@ fn run_with<T: Tool, H: Host>(
         return Err(Refusal::NoMemory);
     };
     match write_whole(host, Port::Report, &text) {
-        Ok(()) => Ok(finished.end.status()),
+        Ok(()) => Ok(Done {
+            status: finished.end.status(),
+            lines: Lines::new(finished.lines),
+        }),
         Err(_) => Err(Refusal::ReportFault),
     }
 }
@@ -91,7 +101,7 @@ pub(crate) fn run_loaded<H: Host>(
     guest: Guest,
     budget: u64,
     tool: ToolName,
-) -> Result<u8, Refusal>
+) -> Result<Done, Refusal>
     requires frames { MOST_PAGES ≤ guest.frames.count }
     requires budget { budget ≤ MOST_BUDGET }
     requires sizes { HasSizes tool }

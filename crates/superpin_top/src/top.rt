@@ -17,7 +17,7 @@ ghost use Rattle.superpin_top.specs.Top.{IsBuilt, LoadGives};
 ghost use Rattle.superpin_top.specs.declared.tools.ToolName.{ToolName};
 
 use crate::file::{load_image, read_program};
-use crate::run::run_loaded;
+use crate::run::{Done, run_loaded};
 use crate::tools::ToolName;
 use crate::view::view_asked;
 use crate::words::{asked_run, asked_view};
@@ -84,7 +84,7 @@ fn run_asked<H: Host>(
     budget: u64,
     tool: ToolName,
     host: &mut H,
-) -> Result<u8, Refusal>
+) -> Result<Done, Refusal>
     requires some { 0 < length strings.now }
     requires budget { budget ≤ MOST_BUDGET }
     requires sizes { HasSizes tool }
@@ -107,7 +107,7 @@ fn run_asked<H: Host>(
 }
 
 // What the words ask for, done.
-fn attempt<H: Host>(alloc: Global, words: &[String], host: &mut H) -> Result<u8, Refusal>
+fn attempt<H: Host>(alloc: Global, words: &[String], host: &mut H) -> Result<Done, Refusal>
     ensures words { (asked (texts words.now) ≡ None) ↔ (result ≡ Err Refusal.NotBuilt) }
     ensures early { WhereTold (H.told host.old).files (λ files.
         IsDecided (task_of (texts words.now) files) result) }
@@ -200,9 +200,10 @@ pub fn superpin<H: Host + Send, P: Pacer + Send>(
         AddsFront (H.told host.old).err (due_of (texts words.now) files w).err (H.told host.new).err) }
 {
     match attempt(alloc, words, host) {
-        Ok(status) => Answer::Ended {
-            status,
+        Ok(done) => Answer::Ended {
+            status: done.status,
             cuts: Cuts::none(alloc),
+            lines: done.lines,
         },
         Err(refusal) => {
             refuse(host, &refusal);

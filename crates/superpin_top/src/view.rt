@@ -10,10 +10,11 @@ ghost use Rattle.superpin_top.specs.Top.{IsBuilt, TextGives};
 ghost use Rattle.superpin_top.specs.Words.{ToView};
 
 use crate::file::{load_image, read_program};
+use crate::run::Done;
 use elf_load::Image;
 use ins_views::Views;
 use sp_host::{Host, Port, write_whole};
-use sp_report::{Refusal, view_text};
+use sp_report::{Lines, Refusal, view_text};
 use std::alloc::{AllocError, Global};
 
 // The text of an image's code.
@@ -59,7 +60,7 @@ fn text_asked<H: Host>(alloc: Global, name: &str, host: &mut H) -> Result<Vec<u8
 
 /// Writes the text of the code of the file of this name to the standard output. All of it is made
 /// before its first byte is written.
-pub(crate) fn view_asked<H: Host>(alloc: Global, name: &str, host: &mut H) -> Result<u8, Refusal>
+pub(crate) fn view_asked<H: Host>(alloc: Global, name: &str, host: &mut H) -> Result<Done, Refusal>
     ensures early { WhereTold (H.told host.old).files
         (λ files. IsDecided (task_in files (ToView name.now)) result) }
     ensures told { WhereAllTold (H.told host.old) (λ files w. AttemptGives (H.told host.old)
@@ -73,7 +74,10 @@ pub(crate) fn view_asked<H: Host>(alloc: Global, name: &str, host: &mut H) -> Re
         Err(refusal) => return Err(refusal),
     };
     match write_whole(host, Port::Out, &text) {
-        Ok(()) => Ok(0),
+        Ok(()) => Ok(Done {
+            status: 0,
+            lines: Lines::none(alloc),
+        }),
         Err(_) => Err(Refusal::OutputFault { port: Port::Out }),
     }
 }

@@ -94,10 +94,37 @@ pub(crate) fn are(bytes: &[u8], wanted: &[u8]) -> bool {
 /// Whether the run ended with this status and without a cut.
 pub(crate) fn is_ended(answer: &Answer, wanted: u8) -> bool {
     match answer {
-        Answer::Ended { status, cuts } => {
+        Answer::Ended { status, cuts, .. } => {
             *status == wanted && exit_code(answer) == wanted && cuts.positions().is_empty()
         }
         Answer::Refused(_) => false,
+    }
+}
+
+/// Whether the run ended with one line, of so many instructions, so many calls and four zeros.
+pub(crate) fn has_one_line(answer: &Answer, steps: u64, calls: u64) -> bool {
+    let Answer::Ended { lines, .. } = answer else {
+        return false;
+    };
+    match lines.lines() {
+        [line] => {
+            let hits = line.hits;
+            line.steps == steps
+                && line.calls == calls
+                && hits.quick == 0
+                && hits.registers == 0
+                && hits.stack == 0
+                && hits.whole == 0
+        }
+        _ => false,
+    }
+}
+
+/// Whether there is no line.
+pub(crate) fn has_no_line(answer: &Answer) -> bool {
+    match answer {
+        Answer::Ended { lines, .. } => lines.lines().is_empty(),
+        Answer::Refused(_) => true,
     }
 }
 

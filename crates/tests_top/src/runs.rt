@@ -1,6 +1,6 @@
 // Runs that end. Each count is of the manual's instructions by hand, and each result of a call that
 // of Linux.
-use crate::outside::{HELLO, READ_TWICE, SERIAL, are, is_ended, outside_of, run};
+use crate::outside::{HELLO, READ_TWICE, SERIAL, are, has_one_line, is_ended, outside_of, run};
 use sample_files::{EXIT_7, LOAD_PAST_DATA, one_segment, two_segments};
 use std::alloc::{AllocError, Global};
 use std::test::Fail;
@@ -16,6 +16,9 @@ struct Row {
     err: &'static [u8],
     report: &'static [u8],
     status: u8,
+    // The instructions that were tried, and the calls that went on.
+    steps: u64,
+    calls: u64,
 }
 
 const QUIET: Row = Row {
@@ -27,6 +30,8 @@ const QUIET: Row = Row {
     err: b"",
     report: b"icount 3\nend exit 7\n",
     status: 7,
+    steps: 3,
+    calls: 0,
 };
 
 fn program(alloc: Global, row: &Row) -> Result<Vec<u8>, AllocError> {
@@ -44,6 +49,7 @@ fn holds(alloc: Global, row: &Row) -> Result<bool, Fail> {
     let done = run(alloc, &SERIAL, outside)?;
     Ok(
         is_ended(&done.answer, row.status)
+            && has_one_line(&done.answer, row.steps, row.calls)
             && are(&done.out, row.out)
             && are(&done.err, row.err)
             && are(&done.report, row.report),
@@ -56,6 +62,8 @@ const EXITS: [Row; 4] = [
         code: &HELLO,
         out: b"hello\n",
         report: b"icount 9\nend exit 0\n",
+        steps: 9,
+        calls: 1,
         status: 0,
         ..QUIET
     },
@@ -67,6 +75,8 @@ const EXITS: [Row; 4] = [
         ],
         err: b"hello\n",
         report: b"icount 9\nend exit 0\n",
+        steps: 9,
+        calls: 1,
         status: 0,
         ..QUIET
     },
@@ -76,6 +86,7 @@ const EXITS: [Row; 4] = [
             0x000102b7, 0x061280e7, 0, 0x05d00893, 0x00700513, 0x00000073,
         ],
         report: b"icount 5\nend exit 7\n",
+        steps: 5,
         ..QUIET
     },
 ];
@@ -97,6 +108,8 @@ const CALLS: [Row; 6] = [
             0x04000893, 0x00300513, 0x00100613, 0x00000073, 0x05d00893, 0x00000073,
         ],
         report: b"icount 6\nend exit 247\n",
+        steps: 6,
+        calls: 1,
         status: 247,
         ..QUIET
     },
@@ -105,6 +118,8 @@ const CALLS: [Row; 6] = [
             0x04000893, 0x00100513, 0x300005b7, 0x00100613, 0x00000073, 0x05d00893, 0x00000073,
         ],
         report: b"icount 7\nend exit 242\n",
+        steps: 7,
+        calls: 1,
         status: 242,
         ..QUIET
     },
@@ -113,6 +128,8 @@ const CALLS: [Row; 6] = [
             0x04000893, 0x00100513, 0x300005b7, 0x00000613, 0x00000073, 0x05d00893, 0x00000073,
         ],
         report: b"icount 7\nend exit 0\n",
+        steps: 7,
+        calls: 1,
         status: 0,
         ..QUIET
     },
@@ -121,6 +138,8 @@ const CALLS: [Row; 6] = [
         code: &READ_TWICE,
         input: b"ab",
         report: b"icount 10\nend exit 7\n",
+        steps: 10,
+        calls: 2,
         ..QUIET
     },
     // getpid and clock_gettime64 in turn, until a second is stored at 0x20000.
@@ -132,6 +151,8 @@ const CALLS: [Row; 6] = [
         ],
         moments: &[0, 0, 0, 1_000_000_000],
         report: b"icount 36\nend exit 7\n",
+        steps: 36,
+        calls: 8,
         ..QUIET
     },
     // mmap2 of 100 pages, in each of which a word is stored.
@@ -141,6 +162,8 @@ const CALLS: [Row; 6] = [
             0x00652023, 0x00650533, 0xfff38393, 0xfe039ae3, 0x05d00893, 0x00700513, 0x00000073,
         ],
         report: b"icount 410\nend exit 7\n",
+        steps: 410,
+        calls: 1,
         ..QUIET
     },
 ];
@@ -159,6 +182,7 @@ const SIGNALS: [Row; 5] = [
     Row {
         code: &[0x000102b7, 0x002280e7],
         report: b"icount 2\nend signal 7 at 0x00010058\n",
+        steps: 2,
         status: 135,
         ..QUIET
     },
@@ -166,6 +190,7 @@ const SIGNALS: [Row; 5] = [
     Row {
         code: &[0x000102b7, 0x0002a023],
         report: b"icount 2\nend signal 11 at 0x00010058\n",
+        steps: 2,
         status: 139,
         ..QUIET
     },
@@ -173,6 +198,7 @@ const SIGNALS: [Row; 5] = [
         data: true,
         code: &LOAD_PAST_DATA,
         report: b"icount 2\nend signal 11 at 0x00010078\n",
+        steps: 2,
         status: 139,
         ..QUIET
     },
@@ -180,12 +206,14 @@ const SIGNALS: [Row; 5] = [
     Row {
         code: &[0x00000013, 0],
         report: b"icount 1\nend signal 4 at 0x00010058\n",
+        steps: 1,
         status: 132,
         ..QUIET
     },
     Row {
         code: &[0x00000013, 0x00100073],
         report: b"icount 2\nend signal 5 at 0x00010058\n",
+        steps: 2,
         status: 133,
         ..QUIET
     },

@@ -1,7 +1,7 @@
 // The text of a file's code. Each line is the manual's table by hand.
 ghost use Rattle.std.specs.Prelude.{◌≡◌, ◌<◌, IfOk};
 
-use crate::outside::{Outside, Wanted, are, is_wanted, outside_of, run};
+use crate::outside::{Outside, Wanted, are, has_no_line, is_wanted, outside_of, run};
 use elf_load::ElfFault;
 use sample_files::{EXIT_7, one_segment};
 use sp_host::Port;
@@ -62,6 +62,7 @@ fn leaves(
     let done = run(alloc, &VIEW, outside)?;
     Ok(
         is_wanted(&done.answer, answer)
+            && has_no_line(&done.answer)
             && are(&done.out, out)
             && done.err.is_empty()
             && are(&done.report, report.as_bytes()),

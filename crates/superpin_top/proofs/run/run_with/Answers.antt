@@ -39,7 +39,7 @@ returns-in_default-report-clause-told g c w strings input moments begins =
     let r = run_of_program p w in
     let items = trace_of r.budget r.start in
     let done = finishes t mid r gives.last finished.end gives.ends in
-    no_room t p w finished.end (p.tool.text items) mid done
+    no_room t p w finished.end _ (p.tool.text items) mid done
 
 pub returns-in-Ok-write_whole-clause-told : goal.returns-in-Ok-write_whole-clause-told
 returns-in-Ok-write_whole-clause-told g c w strings input moments begins =
@@ -57,7 +57,7 @@ returns-in-Ok-write_whole-clause-told g c w strings input moments begins =
     let done = finishes t mid r gives.last finished.end gives.ends in
     let whole = c.deref.ensures.value ∙ (c.in-Ok-report.ensures (trace_events calls c.in-Ok.views items) gives.value
     ∙ ap (λ (v : ViewFields). report_of (g.T.Tool.text_of c.args.tool.now v (g.T.Tool.value c.args.tool.now (trace_events calls v items))) (end_by finished.end)) c.in-Ok.ensures) in
-    reported t p w finished.end mid (g.H.Host.told c.write_whole.new.host) (p.tool.text items) c.deref.result.now c.status.result done whole c.in-Ok-write_whole.ensures.told c.status.ensures
+    reported t p w finished.end mid (g.H.Host.told c.write_whole.new.host) _ (p.tool.text items) c.deref.result.now (record { status = c.status.result; lines = c.new-in-Ok-write_whole.result }) done whole c.in-Ok-write_whole.ensures.told c.status.ensures (c.new-in-Ok-write_whole.ensures ∙ gives.lines)
 
 pub returns-clause-told : goal.returns-clause-told
 returns-clause-told g c w strings input moments begins =
@@ -75,4 +75,4 @@ returns-clause-told g c w strings input moments begins =
     let done = finishes t mid r gives.last finished.end gives.ends in
     let whole = c.deref.ensures.value ∙ (c.in-Ok-report.ensures (trace_events calls c.in-Ok.views items) gives.value
     ∙ ap (λ (v : ViewFields). report_of (g.T.Tool.text_of c.args.tool.now v (g.T.Tool.value c.args.tool.now (trace_events calls v items))) (end_by finished.end)) c.in-Ok.ensures) in
-    not_reported t p w finished.end mid (g.H.Host.told c.write_whole.new.host) (p.tool.text items) c.deref.result.now done whole c.in-Err-write_whole.ensures.told
+    not_reported t p w finished.end mid (g.H.Host.told c.write_whole.new.host) _ (p.tool.text items) c.deref.result.now done whole c.in-Err-write_whole.ensures.told

@@ -1,10 +1,11 @@
-use Rattle.std.proofs.Common.{ℕ, refl, sym, subst, ◌∙◌}
+use Rattle.std.proofs.Common.{refl, sym, subst, ◌∙◌}
 use Rattle.std.specs.Prelude.{Result, IfErr}
 use Rattle.sp_report.specs.declared.answer.Refusal.{Refusal}
 use Rattle.superpin_top.specs.Due.{Task}
 use Rattle.superpin_top.specs.Outcome.{AttemptGives, IsDecided}
 use Rattle.superpin_top.specs.Top.{IsBuilt}
 use Rattle.superpin_top.specs.Words.{Request, ToRun, ToView, texts}
+use Rattle.superpin_top.specs.declared.run.Done.{Done}
 use Rattle.superpin_top.proofs.Ready.{attempt_none, is_asked, none_asked, not_asked, run_is_asked, view_is_asked}
 use Rattle.superpin_top.proofs.Accepted.{budget_asked, sizes_asked}
 use Rattle.superpin_top.proofs.top.attempt.Goals as goal
@@ -18,7 +19,7 @@ run_asked-requires-clause-sizes g c = sizes_asked (texts c.args.words.now) _ c.i
 pub returns-in-Some-clause-words : goal.returns-in-Some-clause-words
 returns-in-Some-clause-words g c = (
   (λ none. let both = sym (run_is_asked (texts c.args.words.now) _ c.in-Some.ensures.asked) ∙ none in cc),
-  λ e. absurd (subst (λ (r : Result ℕ Refusal). IfErr r IsBuilt) e c.run_asked.ensures.built refl),
+  λ e. absurd (subst (λ (r : Result Done Refusal). IfErr r IsBuilt) e c.run_asked.ensures.built refl),
 )
 
 pub returns-in-Some-clause-early : goal.returns-in-Some-clause-early
@@ -37,7 +38,7 @@ returns-in-Some-clause-told g c files w files_are input moments =
 pub returns-in-Some-asked_view-clause-words : goal.returns-in-Some-asked_view-clause-words
 returns-in-Some-asked_view-clause-words g c = (
   (λ none. let both = sym (view_is_asked (texts c.args.words.now) _ c.in_default.ensures.asked c.in-Some-asked_view.ensures) ∙ none in cc),
-  λ e. absurd (subst (λ (r : Result ℕ Refusal). IfErr r IsBuilt) e c.view_asked.ensures.built refl),
+  λ e. absurd (subst (λ (r : Result Done Refusal). IfErr r IsBuilt) e c.view_asked.ensures.built refl),
 )
 
 pub returns-in-Some-asked_view-clause-early : goal.returns-in-Some-asked_view-clause-early

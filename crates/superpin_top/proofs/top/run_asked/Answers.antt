@@ -1,4 +1,4 @@
-use Rattle.std.proofs.Common.{ℕ, ap, sym, subst, ◌∙◌}
+use Rattle.std.proofs.Common.{ap, sym, subst, ◌∙◌}
 use Rattle.std.specs.Prelude.{Ok, Result, IfErr}
 use Rattle.sp_host.specs.Told.{Told}
 use Rattle.sp_report.specs.declared.answer.Refusal.{Refusal}
@@ -7,6 +7,7 @@ use Rattle.superpin_top.specs.Outcome.{AttemptGives}
 use Rattle.superpin_top.specs.Tools.{meaning_of}
 use Rattle.superpin_top.specs.Top.{IsLate}
 use Rattle.superpin_top.specs.Words.{Request, ToRun, texts}
+use Rattle.superpin_top.specs.declared.run.Done.{Done}
 use Rattle.superpin_top.proofs.Ready.{ran_decides, unready, unready_decides}
 use Rattle.superpin_top.proofs.top.run_asked.Goals as goal
 
@@ -32,7 +33,7 @@ returns-in-Ok-clause-early g c files files_are =
     let a : Request = record { budget = c.args.budget; tool = c.args.tool; strings = strings } in
     let loads = c.in-Ok.ensures.loaded a.budget a.tool files files_are in
     ran_decides (task_in files (ToRun a)) c.run_loaded.result (Runs (record { image = c.in-Ok.loaded.image; strings = strings; budget = a.budget; tool = meaning_of c.in-Ok.loaded.image a.tool }), loads.0)
-    (λ refusal e. subst (λ (r : Result ℕ Refusal). IfErr r IsLate) e c.run_loaded.ensures.late)
+    (λ refusal e. subst (λ (r : Result Done Refusal). IfErr r IsLate) e c.run_loaded.ensures.late)
 
 pub returns-in-Err-clause-early : goal.returns-in-Err-clause-early
 returns-in-Err-clause-early g c files files_are =
