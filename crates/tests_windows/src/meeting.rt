@@ -1,5 +1,6 @@
 // The slices of a window meet: a tool of the test's own counts instructions, and waits at one of each slice for the other.
-ghost use Rattle.std.specs.Prelude.{[], false};
+ghost use Rattle.std.specs.Prelude.{ℕ, [], false};
+ghost use Rattle.tool_counts.specs.Counts.{IsCount, IsCount-prop, own_events};
 ghost use Rattle.tests_windows.specs.Calls.{address_calls};
 
 use crate::programs::COUNT_TO_SIX;
@@ -51,15 +52,15 @@ impl Tool for Meeting {
 
     ghost GROWS = { false };
 
-    ghost Value = { Unit {0} };
+    ghost Value = { ℕ };
 
-    ghost value = { λ _ xs. tt };
+    ghost value = { λ _ xs. own_events xs };
 
-    ghost is_value = { λ _ xs n. Unit {0} };
+    ghost is_value = { λ _ xs n. IsCount xs n };
 
-    ghost is_local = { λ _ ys n. Unit {0} };
+    ghost is_local = { λ _ ys n. IsCount ys n };
 
-    ghost once = { λ _ ys n a b. refl };
+    ghost once = { λ _ ys n. IsCount-prop ys n };
 
     ghost text_of = { λ _ _ n. [] };
 
@@ -80,7 +81,9 @@ impl Tool for Meeting {
     }
 
     fn on(&self, local: &mut u64, event: &Event) -> Result<(), AllocError> {
-        *local = local.wrapping_add(1);
+        if event.number == 0 {
+            *local = local.wrapping_add(1);
+        }
         if event.args[0] == FIRST {
             self.meet(&self.first, &self.second);
         }
