@@ -14,6 +14,7 @@ use Rattle.sp_words.specs.Split.{Text, is_given_twice, option_words, positionals
 use Rattle.sp_words.specs.Commands.{demo_app, live_app, run_app, view_app}
 use Rattle.sp_words.specs.Value.{number_in}
 use Rattle.sp_words.specs.Options.{Values, bounds_of, live_values, run_values}
+use Rattle.sp_words.specs.declared.asked.RunAsked.{RunAsked}
 use Rattle.sp_words.specs.declared.asked.Asked.{Asked}
 use Rattle.sp_words.specs.declared.asked.Asked.TheVariants.{Run, View, Demo}
 use Rattle.sp_words.specs.declared.asked.WordFault.{WordFault}
@@ -31,8 +32,8 @@ pub data Wanted : Type 0 where
   ToView : Text → Wanted
   ToDemo : ℕ → Wanted
 
-abbrev pub wanted_of : Asked → Wanted
-wanted_of (Run r) = ToRun (record {
+abbrev pub run_of_asked : RunAsked → RunWanted
+run_of_asked r = record {
   values = record {
     by = r.by;
     common = record { tool = r.tool; bounds = bounds_of r.limits; msec = r.msec; slices = r.slices };
@@ -40,7 +41,10 @@ wanted_of (Run r) = ToRun (record {
   };
   file = r.file;
   args = r.args;
-})
+}
+
+abbrev pub wanted_of : Asked → Wanted
+wanted_of (Run r) = ToRun (run_of_asked r)
 wanted_of (View file) = ToView file
 wanted_of (Demo n) = ToDemo n
 

@@ -5,3 +5,6 @@ pub mod Value
 pub mod Options
 pub mod Shown
 pub mod Asked
+pub mod Run
+pub mod Tools
+pub mod Due

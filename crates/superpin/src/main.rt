@@ -5,5 +5,5 @@ use std::process::ExitCode;
 use superpin_top::run_program;
 
 fn main(rt: HostRuntime) -> ExitCode {
-    run_program(rt)
+    run_program(rt, &rt)
 }

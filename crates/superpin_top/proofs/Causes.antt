@@ -13,7 +13,9 @@ use Rattle.sp_report.specs.declared.answer.Refusal.TheVariants as refusals
 use Rattle.syscall_layer.specs.declared.fault.RunFault.{RunFault}
 use Rattle.syscall_layer.specs.declared.fault.RunFault.TheVariants as faults
 use Rattle.syscall_layer.specs.Step.{IsOfGuest as IsRunGuests, run_source_of as run_source}
-use Rattle.superpin_top.specs.Causes.{cause_of, refusal_of_run, IsOfGuest, CausedBy}
+use Rattle.sp_words.specs.declared.asked.WordFault.{WordFault}
+use Rattle.sp_words.specs.declared.asked.WordFault.TheVariants as words
+use Rattle.superpin_top.specs.Causes.{cause_of, refusal_of_run, refusal_of_words, IsOfGuest, CausedBy}
 use Rattle.superpin_top.specs.Top.{IsLate}
 use Rattle.superpin_top.specs.Outcome.{WritesLine}
 
@@ -39,6 +41,11 @@ run_caused (faults.BudgetSpent n) before now caused guests = (caused, tt)
 run_caused faults.InputFault before now caused guests = (caused, tt)
 run_caused (faults.OutputFault port) before now caused guests = (caused, guests)
 run_caused faults.NoMemory before now caused guests = (caused, tt)
+
+-- a fault of the words has no cause in the outside
+pub words_caused : (fault : WordFault) (f : Faults) → CausedBy (refusal_of_words fault) f f
+words_caused (words.Usage kind) f = (refl, tt)
+words_caused words.NoMemory f = (refl, tt)
 
 -- and it is none of a file
 pub run_late : (fault : RunFault) → IsLate (refusal_of_run fault)

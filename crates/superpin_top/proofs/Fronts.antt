@@ -17,8 +17,12 @@ use Rattle.syscall_layer.specs.Serve.{InputPart, PartWritten, told_after}
 use Rattle.syscall_layer.specs.Step.{StopsInput, world_of}
 use Rattle.serial_run.specs.Run.{StepBefore}
 use Rattle.serial_run.specs.Steps.{WantsMemory}
-use Rattle.superpin_top.specs.Start.{Run, steps_of}
-use Rattle.superpin_top.specs.Due.{Due, due_state, due_run}
+use Rattle.window_run.specs.Windows.{StandsBetween}
+use Rattle.sp_words.specs.Due.{Due, due_ended, due_run, due_state}
+use Rattle.sp_words.specs.Run.{Run, Slicing, steps_of}
+use Rattle.sp_words.specs.declared.asked.By.{By}
+use Rattle.sp_words.specs.declared.asked.By.TheVariants.{Serial, Windows}
+use Rattle.superpin_top.specs.Engine.{WantsWithin}
 use Rattle.superpin_top.specs.Outcome.{AddsFront}
 
 bytes_more : (k : ℕ) (before more : List Sent) → bytes_to k (before ++ more) ≡ bytes_to k before ++ bytes_to k more
@@ -64,29 +68,29 @@ part_front k n budget count p q bytes lt stands sends =
     to_itself k bytes = ap (λ (b : Bool). (if b then bytes else []) ++ []) (same_eqb k) ∙ append-nil bytes
 
 -- the due bytes are those of the whole run
-due_ended_out : (r : Run) (p : Position) (end : End) (items : List TraceItem) (sent : List Sent) → (due_state r (Ended p end) items sent).out ≡ bytes_to 1 sent
-due_ended_out r p (Exit status) items sent = refl
-due_ended_out r p (Signal kind pc) items sent = refl
-due_ended_out r p (Unsupported number pc) items sent = refl
+due_ended_out : (end : End) (q : Slicing) (report : List ℕ) (sent : List Sent) (w : World) → (due_ended end q report sent w).out ≡ bytes_to 1 sent
+due_ended_out (Exit status) q report sent w = refl
+due_ended_out (Signal kind pc) q report sent w = refl
+due_ended_out (Unsupported number pc) q report sent w = refl
 
-due_state_out : (r : Run) (state : RunState Position End) (items : List TraceItem) (sent : List Sent) → (due_state r state items sent).out ≡ bytes_to 1 sent
-due_state_out r (Running p) items sent = refl
-due_state_out r (Ended p end) items sent = due_ended_out r p end items sent
+due_state_out : (r : Run) (s : Slicing) (state : RunState Position End) (items : List TraceItem) (sent : List Sent) → (due_state r s state items sent).out ≡ bytes_to 1 sent
+due_state_out r s (Running p) items sent = refl
+due_state_out r s (Ended p end) items sent = due_ended_out end _ _ sent p.world
 
-due_ended_err : (r : Run) (p : Position) (end : End) (items : List TraceItem) (sent : List Sent) → (due_state r (Ended p end) items sent).err ≡ bytes_to 2 sent
-due_ended_err r p (Exit status) items sent = refl
-due_ended_err r p (Signal kind pc) items sent = refl
-due_ended_err r p (Unsupported number pc) items sent = refl
+due_ended_err : (end : End) (q : Slicing) (report : List ℕ) (sent : List Sent) (w : World) → (due_ended end q report sent w).err ≡ bytes_to 2 sent
+due_ended_err (Exit status) q report sent w = refl
+due_ended_err (Signal kind pc) q report sent w = refl
+due_ended_err (Unsupported number pc) q report sent w = refl
 
-due_state_err : (r : Run) (state : RunState Position End) (items : List TraceItem) (sent : List Sent) → (due_state r state items sent).err ≡ bytes_to 2 sent
-due_state_err r (Running p) items sent = refl
-due_state_err r (Ended p end) items sent = due_ended_err r p end items sent
+due_state_err : (r : Run) (s : Slicing) (state : RunState Position End) (items : List TraceItem) (sent : List Sent) → (due_state r s state items sent).err ≡ bytes_to 2 sent
+due_state_err r s (Running p) items sent = refl
+due_state_err r s (Ended p end) items sent = due_ended_err end _ _ sent p.world
 
-pub due_out : (r : Run) → (due_run r).out ≡ bytes_to 1 (sent_of r.budget r.start)
-due_out r = due_state_out r (run_of r.budget r.start) (trace_of r.budget r.start) (sent_of r.budget r.start)
+pub due_out : (r : Run) (s : Slicing) → (due_run r s).out ≡ bytes_to 1 (sent_of r.budget r.start)
+due_out r s = due_state_out r s (run_of r.budget r.start) (trace_of r.budget r.start) (sent_of r.budget r.start)
 
-pub due_err : (r : Run) → (due_run r).err ≡ bytes_to 2 (sent_of r.budget r.start)
-due_err r = due_state_err r (run_of r.budget r.start) (trace_of r.budget r.start) (sent_of r.budget r.start)
+pub due_err : (r : Run) (s : Slicing) → (due_run r s).err ≡ bytes_to 2 (sent_of r.budget r.start)
+due_err r s = due_state_err r s (run_of r.budget r.start) (trace_of r.budget r.start) (sent_of r.budget r.start)
 
 -- what was added is such a beginning
 adds : (k : ℕ) (r : Run) (old new : Option (List ℕ)) (due bytes : List ℕ) → due ≡ bytes_to k (sent_of r.budget r.start) → IsSentFront k r.budget r.start bytes → new ≡ appended old bytes → AddsFront old due new
@@ -98,10 +102,10 @@ pub record AddsFronts (t : Told) (d : Due) (new : Told) : Type 0 where
   pub err : AddsFront t.err d.err new.err
 
 -- after the first steps of the run
-pub steps_fronts : (t new : Told) (n : ℕ) (r : Run) (w : World) → n ≤ r.budget → new ≡ told_after t w (sent_of n r.start) → AddsFronts t (due_run r) new
-steps_fronts t new n r w le told = record {
-  out = adds 1 r t.out new.out _ (bytes_to 1 (sent_of n r.start)) (due_out r) (steps_front 1 n r.budget r.start le) (ap (λ (q : Told). q.out) told);
-  err = adds 2 r t.err new.err _ (bytes_to 2 (sent_of n r.start)) (due_err r) (steps_front 2 n r.budget r.start le) (ap (λ (q : Told). q.err) told);
+pub steps_fronts : (t new : Told) (n : ℕ) (r : Run) (s : Slicing) (w : World) → n ≤ r.budget → new ≡ told_after t w (sent_of n r.start) → AddsFronts t (due_run r s) new
+steps_fronts t new n r s w le told = record {
+  out = adds 1 r t.out new.out _ (bytes_to 1 (sent_of n r.start)) (due_out r s) (steps_front 1 n r.budget r.start le) (ap (λ (q : Told). q.out) told);
+  err = adds 2 r t.err new.err _ (bytes_to 2 (sent_of n r.start)) (due_err r s) (steps_front 2 n r.budget r.start le) (ap (λ (q : Told). q.err) told);
 }
 
 -- after the steps before a call that reads
@@ -118,46 +122,50 @@ input_leaves (Some (Tells at)) t w before new part = absurd part
 input_leaves (Some (Maps changed)) t w before new part = absurd part
 input_leaves (Some (Ends status)) t w before new part = absurd part
 
-pub input_fronts : (t new : Told) (r : Run) → StepBefore (steps_of r) (λ q before. StopsInput t q before new) → AddsFronts t (due_run r) new
-input_fronts t new r stopped =
+pub input_fronts : (t new : Told) (r : Run) (s : Slicing) → StepBefore (steps_of r) (λ q before. StopsInput t q before new) → AddsFronts t (due_run r s) new
+input_fronts t new r s stopped =
     let q = stopped.position in
     let left = input_leaves (deed_of q.machine) t q.world (sent_of stopped.steps r.start) new stopped.holds.part in
-    steps_fronts t new stopped.steps r left.world (omega (arith, stopped.within)) left.told_is
+    steps_fronts t new stopped.steps r s left.world (omega (arith, stopped.within)) left.told_is
 
 -- before a step that found no memory, or behind it
-pub memory_fronts : (t new : Told) (grows : Bool) (r : Run) → StepBefore (steps_of r) (λ q before. WantsMemory grows t q before new) → AddsFronts t (due_run r) new
-memory_fronts t new grows r stopped =
+serial_fronts : (t new : Told) (grows : Bool) (r : Run) (s : Slicing) → StepBefore (steps_of r) (λ q before. WantsMemory grows t q before new) → AddsFronts t (due_run r s) new
+serial_fronts t new grows r s stopped =
     let q = stopped.position in
-    let before = λ (told : new ≡ told_after t q.world (sent_of stopped.steps r.start)). steps_fronts t new stopped.steps r q.world (omega (arith, stopped.within)) told in
+    let before = λ (told : new ≡ told_after t q.world (sent_of stopped.steps r.start)). steps_fronts t new stopped.steps r s q.world (omega (arith, stopped.within)) told in
     elim stopped.holds [
       | inl lacks ↦ before lacks.told_is
       | inr (_, inl told) ↦ before told
-      | inr (_, inr told) ↦ steps_fronts t new (stopped.steps + 1) r (world_of (step_of q)) (omega (arith, stopped.within))
+      | inr (_, inr told) ↦ steps_fronts t new (stopped.steps + 1) r s (world_of (step_of q)) (omega (arith, stopped.within))
           (told ∙ ap (told_after t (world_of (step_of q))) (sym (along-next step_of sent_at stopped.steps (Running r.start) q stopped.stands)))
     ]
 
+pub memory_fronts : (t new : Told) (r : Run) (s : Slicing) (by : By) → WantsWithin by r t new → AddsFronts t (due_run r s) new
+memory_fronts t new r s Serial stopped = serial_fronts t new r.tool.grows r s stopped
+memory_fronts t new r s Windows stands = steps_fronts t new stands.steps r s stands.position.world stands.within stands.told_is
+
 -- after the steps before a call that writes, and a beginning of what it sends
-pub output_fronts : (t new : Told) (r : Run) (port : Port) → StepBefore (steps_of r) (λ q before. PartWritten t q.world before port (sent_at q) new) → AddsFronts t (due_run r) new
-output_fronts t new r Out stopped =
+pub output_fronts : (t new : Told) (r : Run) (s : Slicing) (port : Port) → StepBefore (steps_of r) (λ q before. PartWritten t q.world before port (sent_at q) new) → AddsFronts t (due_run r s) new
+output_fronts t new r s Out stopped =
     let n = stopped.steps in
     let done = stopped.holds in
     let before = bytes_to 1 (sent_of n r.start) in
     record {
-      out = adds 1 r t.out new.out _ (before ++ take done.part.count done.bytes) (due_out r) (part_front 1 n r.budget done.part.count r.start stopped.position done.bytes stopped.within stopped.stands done.sends) (ap (λ (q : Told). q.out) done.part.sends ∙ appended-more t.out before (take done.part.count done.bytes));
-      err = adds 2 r t.err new.err _ (bytes_to 2 (sent_of n r.start)) (due_err r) (steps_front 2 n r.budget r.start (omega (arith, stopped.within))) (ap (λ (q : Told). q.err) done.part.sends);
+      out = adds 1 r t.out new.out _ (before ++ take done.part.count done.bytes) (due_out r s) (part_front 1 n r.budget done.part.count r.start stopped.position done.bytes stopped.within stopped.stands done.sends) (ap (λ (q : Told). q.out) done.part.sends ∙ appended-more t.out before (take done.part.count done.bytes));
+      err = adds 2 r t.err new.err _ (bytes_to 2 (sent_of n r.start)) (due_err r s) (steps_front 2 n r.budget r.start (omega (arith, stopped.within))) (ap (λ (q : Told). q.err) done.part.sends);
     }
-output_fronts t new r Err stopped =
+output_fronts t new r s Err stopped =
     let n = stopped.steps in
     let done = stopped.holds in
     let before = bytes_to 2 (sent_of n r.start) in
     record {
-      out = adds 1 r t.out new.out _ (bytes_to 1 (sent_of n r.start)) (due_out r) (steps_front 1 n r.budget r.start (omega (arith, stopped.within))) (ap (λ (q : Told). q.out) done.part.sends);
-      err = adds 2 r t.err new.err _ (before ++ take done.part.count done.bytes) (due_err r) (part_front 2 n r.budget done.part.count r.start stopped.position done.bytes stopped.within stopped.stands done.sends) (ap (λ (q : Told). q.err) done.part.sends ∙ appended-more t.err before (take done.part.count done.bytes));
+      out = adds 1 r t.out new.out _ (bytes_to 1 (sent_of n r.start)) (due_out r s) (steps_front 1 n r.budget r.start (omega (arith, stopped.within))) (ap (λ (q : Told). q.out) done.part.sends);
+      err = adds 2 r t.err new.err _ (before ++ take done.part.count done.bytes) (due_err r s) (part_front 2 n r.budget done.part.count r.start stopped.position done.bytes stopped.within stopped.stands done.sends) (ap (λ (q : Told). q.err) done.part.sends ∙ appended-more t.err before (take done.part.count done.bytes));
     }
-output_fronts t new r Report stopped =
+output_fronts t new r s Report stopped =
     let n = stopped.steps in
     let done = stopped.holds in
     record {
-      out = adds 1 r t.out new.out _ (bytes_to 1 (sent_of n r.start)) (due_out r) (steps_front 1 n r.budget r.start (omega (arith, stopped.within))) (ap (λ (q : Told). q.out) done.part.sends);
-      err = adds 2 r t.err new.err _ (bytes_to 2 (sent_of n r.start)) (due_err r) (steps_front 2 n r.budget r.start (omega (arith, stopped.within))) (ap (λ (q : Told). q.err) done.part.sends);
+      out = adds 1 r t.out new.out _ (bytes_to 1 (sent_of n r.start)) (due_out r s) (steps_front 1 n r.budget r.start (omega (arith, stopped.within))) (ap (λ (q : Told). q.out) done.part.sends);
+      err = adds 2 r t.err new.err _ (bytes_to 2 (sent_of n r.start)) (due_err r s) (steps_front 2 n r.budget r.start (omega (arith, stopped.within))) (ap (λ (q : Told). q.err) done.part.sends);
     }

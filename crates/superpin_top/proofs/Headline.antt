@@ -2,7 +2,7 @@
 use Rattle.std.proofs.Common.{◌≡◌, ◌≢◌, ◌<◌, ◌-◌, ◌^◌, ◌++◌, ◌⊎◌, ℕ, List, [], take, drop, refl, ap, sym, subst, ◌∙◌, arith, inl, inr}
 use Rattle.std.specs.Prelude.{Option, Result, Ok, Err, true, false, ◌||◌, ◌↔◌}
 use Rattle.std.proofs.lemmas.List.{append-nil, take-append-drop}
-use Rattle.sp_host.specs.Told.{Told, PartSent, sent as sent_to}
+use Rattle.sp_host.specs.Told.{Told, PartSent, appended, sent as sent_to}
 use Rattle.sp_host.specs.Faults.{Source, File, Input, To, Faults, Faulted, count_of}
 use Rattle.sp_host.specs.declared.host.Port.{Port}
 use Rattle.sp_host.specs.declared.host.Port.TheVariants as ports
@@ -18,12 +18,14 @@ use Rattle.sp_report.specs.declared.answer.Answer.TheVariants.{Ended, Refused}
 use Rattle.sp_report.specs.declared.answer.Refusal.{Refusal}
 use Rattle.sp_report.specs.declared.answer.Refusal.TheVariants as refusals
 use Rattle.superpin_top.specs.Causes.{CausedBy, is_early, is_of_run}
-use Rattle.superpin_top.specs.Start.{Run}
-use Rattle.superpin_top.specs.Due.{Due, Program, Task, Runs, Shows, due_ended, due_run, due_shown, due_state, due_task, run_of_program, delivered}
-use Rattle.superpin_top.specs.Outcome.{IsAccepted, IsDecided, IsDue, IsEarly, Refuses, WritesLine, Outcome, IsRefused, CanRise, NoneRose, IsDelivered, IsCaused, AddsFront}
+use Rattle.master_run.specs.Answers.{PacerState}
+use Rattle.sp_words.specs.Due.{Due, Program, delivered, due_ended, due_run, due_sliced, due_state, run_of_program}
+use Rattle.sp_words.specs.Run.{Run, Slicing, slicing_of}
+use Rattle.superpin_top.specs.Due.{Task, Runs, Shows, due_shown, due_task, not_sliced, slicing_in}
+use Rattle.superpin_top.specs.Outcome.{IsAccepted, IsDecided, IsDue, IsEndDue, IsEarly, Refuses, WritesLine, Outcome, IsEnded, IsRefused, CanRise, NoneRose, IsDelivered, IsCaused, AddsFront}
 use Rattle.superpin_top.proofs.Causes.{count_after, rose_by, line_kept, line_report}
 use Rattle.superpin_top.proofs.Outcomes.{delivered_report}
-use Rattle.superpin_top.proofs.Fronts.{AddsFronts, input_fronts, output_fronts, memory_fronts}
+use Rattle.superpin_top.proofs.Fronts.{AddsFronts, due_err, due_out, input_fronts, output_fronts, memory_fronts}
 
 -- where the count of Report did not rise, the line is whole
 whole : (refusal : Refusal) (old new : Told) (before now : Faults) (writes : WritesLine refusal old new before now) → before.report < 2 ^ 64 - 1 → now.report ≡ before.report → writes.line ≡ refusal_line refusal
@@ -43,25 +45,26 @@ due_delivered t d refusal before middle now mid new is line_is same writes can n
     inr (sym is.answer_is, writes.told_is ∙ (ap (sent_to ports.Report writes.line) is.told_is ∙ (delivered_report t d writes.line ∙ ap (delivered t d) all)))
 
 -- the line of a refusal that is due is the due report
-line_of_end : (end : End) (lines : List SliceLine) (report : List ℕ) (sent : List Sent) (w : World) (refusal : Refusal) → (due_ended end lines report sent w).answer ≡ Refused refusal → (due_ended end lines report sent w).report ≡ refusal_line refusal
-line_of_end (Exit status) lines report sent w refusal h = cc
-line_of_end (Signal kind pc) lines report sent w refusal h = cc
-line_of_end (Unsupported number pc) lines report sent w refusal h = let e : refusals.UnsupportedCall number pc ≡ refusal = cc in ap refusal_line e
+line_of_end : (end : End) (q : Slicing) (report : List ℕ) (sent : List Sent) (w : World) (refusal : Refusal) → (due_ended end q report sent w).answer ≡ Refused refusal → (due_ended end q report sent w).report ≡ refusal_line refusal
+line_of_end (Exit status) q report sent w refusal h = cc
+line_of_end (Signal kind pc) q report sent w refusal h = cc
+line_of_end (Unsupported number pc) q report sent w refusal h = let e : refusals.UnsupportedCall number pc ≡ refusal = cc in ap refusal_line e
 
-line_of_state : (r : Run) (state : RunState Position End) (items : List TraceItem) (sent : List Sent) (refusal : Refusal) → (due_state r state items sent).answer ≡ Refused refusal → (due_state r state items sent).report ≡ refusal_line refusal
-line_of_state r (Running p) items sent refusal h = let e : refusals.BudgetSpent r.budget ≡ refusal = cc in ap refusal_line e
-line_of_state r (RunEnded p end) items sent refusal h = line_of_end end _ _ sent p.world refusal h
+line_of_state : (r : Run) (s : Slicing) (state : RunState Position End) (items : List TraceItem) (sent : List Sent) (refusal : Refusal) → (due_state r s state items sent).answer ≡ Refused refusal → (due_state r s state items sent).report ≡ refusal_line refusal
+line_of_state r s (Running p) items sent refusal h = let e : refusals.BudgetSpent r.budget ≡ refusal = cc in ap refusal_line e
+line_of_state r s (RunEnded p end) items sent refusal h = line_of_end end _ _ sent p.world refusal h
 
-line_due : (task : Result Task Refusal) (w : World) (refusal : Refusal) → (due_task task w).answer ≡ Refused refusal → (due_task task w).report ≡ refusal_line refusal
+line_due : (task : Result Task Refusal) (w : World) (refusal : Refusal) → (due_task task w not_sliced).answer ≡ Refused refusal → (due_task task w not_sliced).report ≡ refusal_line refusal
 line_due (Err early) w refusal h = let e : early ≡ refusal = cc in ap refusal_line e
 line_due (Ok (Shows image)) w refusal h = cc
 line_due (Ok (Runs p)) w refusal h =
     let r = run_of_program p w in
-    line_of_state r (run_of r.budget r.start) (trace_of r.budget r.start) (sent_of r.budget r.start) refusal h
+    line_of_state r not_sliced (run_of r.budget r.start) (trace_of r.budget r.start) (sent_of r.budget r.start) refusal h
 
-due_is : (t : Told) (task : Result Task Refusal) (w : World) (before now : Faults) (refusal : Refusal) (new : Told) (o : IsRefused t task w refusal before new now) → IsDue t (due_task task w) (Refused refusal) o.mid → o.middle ≡ before
-    → CanRise before → now ≡ before → IsDelivered t (due_task task w) (Refused refusal) new
-due_is t task w before now refusal new o is calm can none = due_delivered t (due_task task w) refusal before o.middle now o.mid new is (line_due task w refusal is.answer_is) calm o.writes can none
+due_is : (t : Told) (task : Result Task Refusal) (w : World) (first : PacerState) (before after : Faults) (refusal : Refusal) (new : Told) (now : PacerState) (o : IsRefused t task w first refusal before new after now) → IsDue t (due_task task w not_sliced) (Refused refusal) o.mid
+    → o.middle ≡ before → CanRise before → after ≡ before → IsDelivered t (due_task task w not_sliced) (Refused refusal) new
+due_is t task w first before after refusal new now o is calm can none =
+    due_delivered t (due_task task w not_sliced) refusal before o.middle after o.mid new is (line_due task w refusal is.answer_is) calm o.writes can none
 
 -- a count of the run rose
 count_rose : (source : Source) (refusal : Refusal) (mid new : Told) (before middle now : Faults) → Faulted source before middle → WritesLine refusal mid new middle now → source ≢ To ports.Report → count_of source before < 2 ^ 64 - 1 → now ≡ before → ⊥
@@ -73,35 +76,35 @@ port_below ports.Out before can = can.out
 port_below ports.Err before can = can.err
 port_below ports.Report before can = can.report
 
-headline_of : (t : Told) (task : Result Task Refusal) (w : World) (before now : Faults) (answer : Answer) (new : Told)
-    → Outcome t task w before answer new now → CanRise before → now ≡ before → IsDelivered t (due_task task w) answer new
-headline_of t task w before now (Ended status cuts lines) new o can none = inr (sym o.0, o.1)
-headline_of t task w before now (Refused (refusals.Usage kind)) new o can none = due_is t task w before now (refusals.Usage kind) new o o.refuses o.caused.0 can none
-headline_of t task w before now (Refused refusals.FileTooLarge) new o can none = due_is t task w before now refusals.FileTooLarge new o o.refuses o.caused.0 can none
-headline_of t task w before now (Refused (refusals.Elf fault)) new o can none = due_is t task w before now (refusals.Elf fault) new o o.refuses o.caused.0 can none
-headline_of t task w before now (Refused (refusals.ArgsTooLong bytes)) new o can none = due_is t task w before now (refusals.ArgsTooLong bytes) new o o.refuses o.caused.0 can none
-headline_of t task w before now (Refused (refusals.UnsupportedCall number pc)) new o can none = due_is t task w before now (refusals.UnsupportedCall number pc) new o o.refuses o.caused.0 can none
-headline_of t task w before now (Refused (refusals.BudgetSpent n)) new o can none = due_is t task w before now (refusals.BudgetSpent n) new o o.refuses o.caused.0 can none
-headline_of t task w before now (Refused refusals.NotBuilt) new o can none = due_is t task w before now refusals.NotBuilt new o o.refuses o.caused.0 can none
-headline_of t task w before now (Refused refusals.FileFault) new o can none =
-    absurd (count_rose File refusals.FileFault o.mid new before o.middle now o.caused.0 o.writes (λ e. cc) can.file none)
-headline_of t task w before now (Refused refusals.InputFault) new o can none =
-    absurd (count_rose Input refusals.InputFault o.mid new before o.middle now o.caused.0 o.writes (λ e. cc) can.input none)
-headline_of t task w before now (Refused (refusals.OutputFault port)) new o can none =
-    absurd (count_rose (To port) (refusals.OutputFault port) o.mid new before o.middle now o.caused.0 o.writes (λ e. let same : port ≡ ports.Report = cc in o.caused.1 same) (port_below port before can) none)
-headline_of t task w before now (Refused refusals.ReportFault) new o can none =
-    absurd (omega (arith, rose_by (To ports.Report) before o.middle o.caused.0 can.report, line_report refusals.ReportFault o.mid new o.middle now o.writes, ap (λ (f : Faults). f.report) none))
-headline_of t task w before now (Refused refusals.NoMemory) new o can none = inl refl
+headline_of : (t : Told) (task : Result Task Refusal) (w : World) (first : PacerState) (before after : Faults) (answer : Answer) (new : Told) (now : PacerState)
+    → Outcome t task w first before answer new after now → CanRise before → after ≡ before → IsDelivered t (due_task task w (slicing_in answer)) answer new
+headline_of t task w first before after (Ended status cuts lines) new now o can none = inr (sym o.answer_is, o.told_is)
+headline_of t task w first before after (Refused (refusals.Usage kind)) new now o can none = due_is t task w first before after (refusals.Usage kind) new now o o.refuses o.caused.0 can none
+headline_of t task w first before after (Refused refusals.FileTooLarge) new now o can none = due_is t task w first before after refusals.FileTooLarge new now o o.refuses o.caused.0 can none
+headline_of t task w first before after (Refused (refusals.Elf fault)) new now o can none = due_is t task w first before after (refusals.Elf fault) new now o o.refuses o.caused.0 can none
+headline_of t task w first before after (Refused (refusals.ArgsTooLong bytes)) new now o can none = due_is t task w first before after (refusals.ArgsTooLong bytes) new now o o.refuses o.caused.0 can none
+headline_of t task w first before after (Refused (refusals.UnsupportedCall number pc)) new now o can none = due_is t task w first before after (refusals.UnsupportedCall number pc) new now o o.refuses o.caused.0 can none
+headline_of t task w first before after (Refused (refusals.BudgetSpent n)) new now o can none = due_is t task w first before after (refusals.BudgetSpent n) new now o o.refuses o.caused.0 can none
+headline_of t task w first before after (Refused refusals.NotBuilt) new now o can none = due_is t task w first before after refusals.NotBuilt new now o o.refuses o.caused.0 can none
+headline_of t task w first before after (Refused refusals.FileFault) new now o can none =
+    absurd (count_rose File refusals.FileFault o.mid new before o.middle after o.caused.0 o.writes (λ e. cc) can.file none)
+headline_of t task w first before after (Refused refusals.InputFault) new now o can none =
+    absurd (count_rose Input refusals.InputFault o.mid new before o.middle after o.caused.0 o.writes (λ e. cc) can.input none)
+headline_of t task w first before after (Refused (refusals.OutputFault port)) new now o can none =
+    absurd (count_rose (To port) (refusals.OutputFault port) o.mid new before o.middle after o.caused.0 o.writes (λ e. let same : port ≡ ports.Report = cc in o.caused.1 same) (port_below port before can) none)
+headline_of t task w first before after (Refused refusals.ReportFault) new now o can none =
+    absurd (omega (arith, rose_by (To ports.Report) before o.middle o.caused.0 can.report, line_report refusals.ReportFault o.mid new o.middle after o.writes, ap (λ (f : Faults). f.report) none))
+headline_of t task w first before after (Refused refusals.NoMemory) new now o can none = inl refl
 
 -- an answer that is due has the due cause
 caused_due : (d : Due) (refusal : Refusal) (before now : Faults) → d.answer ≡ Refused refusal → refusal ≢ refusals.ReportFault → IsCaused d before now (Refused refusal)
 caused_due d refusal before now is other = record {
   refused = λ r due. ((λ e. is ∙ e), λ e. sym is ∙ e);
-  reported = λ status lines e. absurd (never (sym e ∙ is));
+  reported = λ status cuts lines e. absurd (never (sym e ∙ is));
   no_report = λ e. absurd (other (cc));
 }
   where
-    never : {status : ℕ} {lines : List SliceLine} → Ended status [] lines ≡ Refused refusal → ⊥
+    never : {status : ℕ} {cuts : List ℕ} {lines : List SliceLine} → Ended status cuts lines ≡ Refused refusal → ⊥
     never e = cc
 
 -- a run that ended is no refusal that is due, and a report fault is none
@@ -123,33 +126,52 @@ port_none ports.Out before now other none = none.out
 port_none ports.Err before now other none = none.err
 port_none ports.Report before now other none = absurd (other refl)
 
-causes_of : (t : Told) (task : Result Task Refusal) (w : World) (before now : Faults) (answer : Answer) (new : Told)
-    → Outcome t task w before answer new now → CanRise before → NoneRose before now → answer ≢ Refused refusals.NoMemory → IsCaused (due_task task w) before now answer
-causes_of t task w before now (Ended status cuts lines) new o can none some = record {
-  refused = λ r due. ((λ e. cc), λ e. absurd (never_ended (due_task task w) status cuts lines r o.0 e));
-  reported = λ other others e. (((λ _. ap (λ (f : Faults). f.report) o.2), λ _. sym o.0 ∙ e), ((λ h. cc), λ rose. absurd (omega (arith, rose, ap (λ (f : Faults). f.report) o.2))));
+-- whether the due answer is that of a run that ended does not hang on how the run is sliced
+ended_by_end : (end : End) (s o : Slicing) (report other : List ℕ) (sent : List Sent) (w : World) → IsEndDue (due_ended end s report sent w) → IsEndDue (due_ended end o other sent w)
+ended_by_end (Exit status) s o report other sent w is = (status, o.cuts, o.lines, refl)
+ended_by_end (Signal kind pc) s o report other sent w is = (128 + kind, o.cuts, o.lines, refl)
+ended_by_end (Unsupported number pc) s o report other sent w (status, cuts, lines, e) = cc
+
+ended_by_state : (r : Run) (s o : Slicing) (state : RunState Position End) (items : List TraceItem) (sent : List Sent) → IsEndDue (due_state r s state items sent) → IsEndDue (due_state r o state items sent)
+ended_by_state r s o (Running p) items sent (status, cuts, lines, e) = cc
+ended_by_state r s o (RunEnded p end) items sent is = ended_by_end end (slicing_of r.by items p s) (slicing_of r.by items p o) _ _ sent p.world is
+
+ended_any : (task : Result Task Refusal) (w : World) (s o : Slicing) → IsEndDue (due_task task w s) → IsEndDue (due_task task w o)
+ended_any (Err refusal) w s o (status, cuts, lines, e) = cc
+ended_any (Ok (Shows image)) w s o is = is
+ended_any (Ok (Runs p)) w s o is =
+    let r = run_of_program p w in
+    ended_by_state r s o (run_of r.budget r.start) (trace_of r.budget r.start) (sent_of r.budget r.start) is
+
+causes_of : (t : Told) (task : Result Task Refusal) (w : World) (first : PacerState) (before after : Faults) (answer : Answer) (new : Told) (now : PacerState)
+    → Outcome t task w first before answer new after now → CanRise before → NoneRose before after → answer ≢ Refused refusals.NoMemory → IsCaused (due_task task w (slicing_in answer)) before after answer
+causes_of t task w first before after (Ended status cuts lines) new now o can none some = record {
+  refused = λ r due. ((λ e. cc), λ e. absurd (never_ended (due_task task w (record { cuts = cuts; lines = lines })) status cuts lines r o.answer_is e));
+  reported = λ other more others e. (((λ _. ap (λ (f : Faults). f.report) o.same), λ _. sym o.answer_is ∙ e), ((λ h. cc), λ rose. absurd (omega (arith, rose, ap (λ (f : Faults). f.report) o.same))));
   no_report = λ e. cc;
 }
-causes_of t task w before now (Refused (refusals.Usage kind)) new o can none some = caused_due (due_task task w) (refusals.Usage kind) before now o.refuses.answer_is (λ e. cc)
-causes_of t task w before now (Refused refusals.FileTooLarge) new o can none some = caused_due (due_task task w) refusals.FileTooLarge before now o.refuses.answer_is (λ e. cc)
-causes_of t task w before now (Refused (refusals.Elf fault)) new o can none some = caused_due (due_task task w) (refusals.Elf fault) before now o.refuses.answer_is (λ e. cc)
-causes_of t task w before now (Refused (refusals.ArgsTooLong bytes)) new o can none some = caused_due (due_task task w) (refusals.ArgsTooLong bytes) before now o.refuses.answer_is (λ e. cc)
-causes_of t task w before now (Refused (refusals.UnsupportedCall number pc)) new o can none some = caused_due (due_task task w) (refusals.UnsupportedCall number pc) before now o.refuses.answer_is (λ e. cc)
-causes_of t task w before now (Refused (refusals.BudgetSpent n)) new o can none some = caused_due (due_task task w) (refusals.BudgetSpent n) before now o.refuses.answer_is (λ e. cc)
-causes_of t task w before now (Refused refusals.NotBuilt) new o can none some = caused_due (due_task task w) refusals.NotBuilt before now o.refuses.answer_is (λ e. cc)
-causes_of t task w before now (Refused refusals.FileFault) new o can none some =
-    absurd (run_rose File refusals.FileFault o.mid new before o.middle now o.caused.0 o.writes (λ e. cc) can.file none.file)
-causes_of t task w before now (Refused refusals.InputFault) new o can none some =
-    absurd (run_rose Input refusals.InputFault o.mid new before o.middle now o.caused.0 o.writes (λ e. cc) can.input none.input)
-causes_of t task w before now (Refused (refusals.OutputFault port)) new o can none some =
-    absurd (run_rose (To port) (refusals.OutputFault port) o.mid new before o.middle now o.caused.0 o.writes (λ e. let same : port ≡ ports.Report = cc in o.caused.1 same) (port_below port before can) (port_none port before now o.caused.1 none))
-causes_of t task w before now (Refused refusals.NoMemory) new o can none some = absurd (some refl)
-causes_of t task w before now (Refused refusals.ReportFault) new o can none some =
-    let rose : before.report < now.report = omega (arith, rose_by (To ports.Report) before o.middle o.caused.0 can.report, line_report refusals.ReportFault o.mid new o.middle now o.writes) in
+causes_of t task w first before after (Refused (refusals.Usage kind)) new now o can none some = caused_due (due_task task w not_sliced) (refusals.Usage kind) before after o.refuses.answer_is (λ e. cc)
+causes_of t task w first before after (Refused refusals.FileTooLarge) new now o can none some = caused_due (due_task task w not_sliced) refusals.FileTooLarge before after o.refuses.answer_is (λ e. cc)
+causes_of t task w first before after (Refused (refusals.Elf fault)) new now o can none some = caused_due (due_task task w not_sliced) (refusals.Elf fault) before after o.refuses.answer_is (λ e. cc)
+causes_of t task w first before after (Refused (refusals.ArgsTooLong bytes)) new now o can none some = caused_due (due_task task w not_sliced) (refusals.ArgsTooLong bytes) before after o.refuses.answer_is (λ e. cc)
+causes_of t task w first before after (Refused (refusals.UnsupportedCall number pc)) new now o can none some = caused_due (due_task task w not_sliced) (refusals.UnsupportedCall number pc) before after o.refuses.answer_is (λ e. cc)
+causes_of t task w first before after (Refused (refusals.BudgetSpent n)) new now o can none some = caused_due (due_task task w not_sliced) (refusals.BudgetSpent n) before after o.refuses.answer_is (λ e. cc)
+causes_of t task w first before after (Refused refusals.NotBuilt) new now o can none some = caused_due (due_task task w not_sliced) refusals.NotBuilt before after o.refuses.answer_is (λ e. cc)
+causes_of t task w first before after (Refused refusals.FileFault) new now o can none some =
+    absurd (run_rose File refusals.FileFault o.mid new before o.middle after o.caused.0 o.writes (λ e. cc) can.file none.file)
+causes_of t task w first before after (Refused refusals.InputFault) new now o can none some =
+    absurd (run_rose Input refusals.InputFault o.mid new before o.middle after o.caused.0 o.writes (λ e. cc) can.input none.input)
+causes_of t task w first before after (Refused (refusals.OutputFault port)) new now o can none some =
+    absurd (run_rose (To port) (refusals.OutputFault port) o.mid new before o.middle after o.caused.0 o.writes (λ e. let same : port ≡ ports.Report = cc in o.caused.1 same) (port_below port before can) (port_none port before after o.caused.1 none))
+causes_of t task w first before after (Refused refusals.NoMemory) new now o can none some = absurd (some refl)
+causes_of t task w first before after (Refused refusals.ReportFault) new now o can none some =
+    let rose : before.report < after.report = omega (arith, rose_by (To ports.Report) before o.middle o.caused.0 can.report, line_report refusals.ReportFault o.mid new o.middle after o.writes) in
+    let s = o.refuses.0 in
+    let ended = ended_any task w s not_sliced o.refuses.2.0 in
     record {
-      refused = λ r due. ((λ e. absurd (report_none r due e)), λ e. absurd (never_ended (due_task task w) o.refuses.0.0 [] o.refuses.0.1 r o.refuses.0.2 e));
-      reported = λ status lines e. (((λ h. cc), λ same. absurd (omega (arith, rose, same))), ((λ _. rose), λ _. refl));
-      no_report = λ _. o.refuses.0;
+      refused = λ r due. ((λ e. absurd (report_none r due e)), λ e. absurd (never_ended (due_task task w not_sliced) ended.0 ended.1.0 ended.1.1.0 r ended.1.1.1 e));
+      reported = λ status cuts lines e. (((λ h. cc), λ same. absurd (omega (arith, rose, same))), ((λ _. rose), λ _. refl));
+      no_report = λ _. ended;
     }
 
 -- what was sent is a beginning of what is due
@@ -165,8 +187,14 @@ nothing_sent t mid d same = record {
   err = record { written = []; rest = d.err; is_front = refl; told_is = ap (λ (q : Told). q.err) same ∙ sym (appended-nil t.err) };
 }
 
-of_task : (t mid : Told) (task : Result Task Refusal) (w : World) (p : Program) → task ≡ Ok (Runs p) → AddsFronts t (due_task (Ok (Runs p)) w) mid → AddsFronts t (due_task task w) mid
-of_task t mid task w p is fronts = subst (λ (s : Result Task Refusal). AddsFronts t (due_task s w) mid) (sym is) fronts
+of_task : (t mid : Told) (task : Result Task Refusal) (w : World) (s : Slicing) (p : Program) → task ≡ Ok (Runs p) → AddsFronts t (due_task (Ok (Runs p)) w s) mid → AddsFronts t (due_task task w s) mid
+of_task t mid task w s p is fronts = subst (λ (k : Result Task Refusal). AddsFronts t (due_task k w s) mid) (sym is) fronts
+
+-- what is due at the outputs does not hang on how the run is sliced
+same_outputs : (task : Result Task Refusal) (w : World) (s o : Slicing) → ((due_task task w s).out ≡ (due_task task w o).out) × ((due_task task w s).err ≡ (due_task task w o).err)
+same_outputs (Err refusal) w s o = (refl, refl)
+same_outputs (Ok (Shows image)) w s o = (refl, refl)
+same_outputs (Ok (Runs p)) w s o = let r = run_of_program p w in (due_out r s ∙ sym (due_out r o), due_err r s ∙ sym (due_err r o))
 
 -- a proper beginning of a text was written
 part_shown : (t mid : Told) (text : List ℕ) (w : World) → PartSent ports.Out text t mid → AddsFronts t (due_shown text w) mid
@@ -175,34 +203,36 @@ part_shown t mid text w part = record {
   err = record { written = []; rest = []; is_front = refl; told_is = ap (λ (q : Told). q.err) part.sends ∙ sym (appended-nil t.err) };
 }
 
-fronts_before : (t : Told) (task : Result Task Refusal) (w : World) (refusal : Refusal) (mid : Told) → Refuses t task w refusal mid → AddsFronts t (due_task task w) mid
-fronts_before t task w refusals.FileFault mid refuses = nothing_sent t mid (due_task task w) refuses
-fronts_before t task w (refusals.Usage kind) mid refuses = all_sent t mid (due_task task w) [] refuses.told_is
-fronts_before t task w refusals.FileTooLarge mid refuses = all_sent t mid (due_task task w) [] refuses.told_is
-fronts_before t task w (refusals.Elf fault) mid refuses = all_sent t mid (due_task task w) [] refuses.told_is
-fronts_before t task w (refusals.ArgsTooLong bytes) mid refuses = all_sent t mid (due_task task w) [] refuses.told_is
-fronts_before t task w (refusals.UnsupportedCall number pc) mid refuses = all_sent t mid (due_task task w) [] refuses.told_is
-fronts_before t task w (refusals.BudgetSpent n) mid refuses = all_sent t mid (due_task task w) [] refuses.told_is
-fronts_before t task w refusals.NotBuilt mid refuses = all_sent t mid (due_task task w) [] refuses.told_is
-fronts_before t task w refusals.InputFault mid refuses = of_task t mid task w refuses.0 refuses.1 (input_fronts t mid (run_of_program refuses.0 w) refuses.2)
-fronts_before t task w (refusals.OutputFault port) mid (inl ran) = of_task t mid task w ran.0 ran.1 (output_fronts t mid (run_of_program ran.0 w) port ran.2)
-fronts_before t task w (refusals.OutputFault port) mid (inr text) = subst (λ (k : Result Task Refusal). AddsFronts t (due_task k w) mid) (sym text.1) (part_shown t mid (view_text text.0) w text.2.1)
-fronts_before t task w refusals.ReportFault mid refuses = record {
-  out = record { written = (due_task task w).out; rest = []; is_front = append-nil (due_task task w).out; told_is = ap (λ (q : Told). q.out) refuses.1.sends };
-  err = record { written = (due_task task w).err; rest = []; is_front = append-nil (due_task task w).err; told_is = ap (λ (q : Told). q.err) refuses.1.sends };
-}
-fronts_before t task w refusals.NoMemory mid (inl same) = nothing_sent t mid (due_task task w) same
-fronts_before t task w refusals.NoMemory mid (inr (inl step)) = of_task t mid task w step.0 step.1 (memory_fronts t mid step.0.tool.grows (run_of_program step.0 w) step.2)
-fronts_before t task w refusals.NoMemory mid (inr (inr ran)) = of_task t mid task w ran.0 ran.1 (all_sent t mid (due_run (run_of_program ran.0 w)) [] ran.2.1)
-
-fronts_of : (t : Told) (task : Result Task Refusal) (w : World) (before now : Faults) (answer : Answer) (new : Told)
-    → Outcome t task w before answer new now → AddsFronts t (due_task task w) new
-fronts_of t task w before now (Ended status cuts lines) new o = all_sent t new (due_task task w) (due_task task w).report o.1
-fronts_of t task w before now (Refused refusal) new o =
-    let fronts = fronts_before t task w refusal o.mid o.refuses in
+fronts_before : (t : Told) (task : Result Task Refusal) (w : World) (first : PacerState) (refusal : Refusal) (mid : Told) (now : PacerState) → Refuses t task w first refusal mid now → AddsFronts t (due_task task w not_sliced) mid
+fronts_before t task w first refusals.FileFault mid now refuses = nothing_sent t mid (due_task task w not_sliced) refuses
+fronts_before t task w first (refusals.Usage kind) mid now refuses = all_sent t mid (due_task task w not_sliced) [] refuses.told_is
+fronts_before t task w first refusals.FileTooLarge mid now refuses = all_sent t mid (due_task task w not_sliced) [] refuses.told_is
+fronts_before t task w first (refusals.Elf fault) mid now refuses = all_sent t mid (due_task task w not_sliced) [] refuses.told_is
+fronts_before t task w first (refusals.ArgsTooLong bytes) mid now refuses = all_sent t mid (due_task task w not_sliced) [] refuses.told_is
+fronts_before t task w first (refusals.UnsupportedCall number pc) mid now refuses = all_sent t mid (due_task task w not_sliced) [] refuses.told_is
+fronts_before t task w first (refusals.BudgetSpent n) mid now refuses = all_sent t mid (due_task task w not_sliced) [] refuses.told_is
+fronts_before t task w first refusals.NotBuilt mid now refuses = all_sent t mid (due_task task w not_sliced) [] refuses.told_is
+fronts_before t task w first refusals.InputFault mid now refuses = of_task t mid task w not_sliced refuses.0 refuses.1 (input_fronts t mid (run_of_program refuses.0 w) not_sliced refuses.2)
+fronts_before t task w first (refusals.OutputFault port) mid now (inl ran) = of_task t mid task w not_sliced ran.0 ran.1 (output_fronts t mid (run_of_program ran.0 w) not_sliced port ran.2)
+fronts_before t task w first (refusals.OutputFault port) mid now (inr text) = subst (λ (k : Result Task Refusal). AddsFronts t (due_task k w not_sliced) mid) (sym text.1) (part_shown t mid (view_text text.0) w text.2.1)
+fronts_before t task w first refusals.ReportFault mid now (s, sliced, ended, part) =
+    let same = same_outputs task w not_sliced s in
     record {
-      out = subst (λ (out : Option (List ℕ)). AddsFront t.out (due_task task w).out out) (sym (ap (λ (q : Told). q.out) o.writes.told_is)) fronts.out;
-      err = subst (λ (err : Option (List ℕ)). AddsFront t.err (due_task task w).err err) (sym (ap (λ (q : Told). q.err) o.writes.told_is)) fronts.err;
+      out = record { written = (due_task task w not_sliced).out; rest = []; is_front = append-nil (due_task task w not_sliced).out; told_is = ap (λ (q : Told). q.out) part.sends ∙ ap (appended t.out) (sym same.0) };
+      err = record { written = (due_task task w not_sliced).err; rest = []; is_front = append-nil (due_task task w not_sliced).err; told_is = ap (λ (q : Told). q.err) part.sends ∙ ap (appended t.err) (sym same.1) };
+    }
+fronts_before t task w first refusals.NoMemory mid now (inl same) = nothing_sent t mid (due_task task w not_sliced) same
+fronts_before t task w first refusals.NoMemory mid now (inr (inl step)) = of_task t mid task w not_sliced step.0 step.1 (memory_fronts t mid (run_of_program step.0 w) not_sliced step.0.engine.by step.2)
+fronts_before t task w first refusals.NoMemory mid now (inr (inr ran)) = of_task t mid task w not_sliced ran.0 ran.1 (all_sent t mid (due_run (run_of_program ran.0 w) not_sliced) [] ran.2.1)
+
+fronts_of : (t : Told) (task : Result Task Refusal) (w : World) (first : PacerState) (before after : Faults) (answer : Answer) (new : Told) (now : PacerState)
+    → Outcome t task w first before answer new after now → AddsFronts t (due_task task w (slicing_in answer)) new
+fronts_of t task w first before after (Ended status cuts lines) new now o = all_sent t new (due_task task w (record { cuts = cuts; lines = lines })) _ o.told_is
+fronts_of t task w first before after (Refused refusal) new now o =
+    let fronts = fronts_before t task w first refusal o.mid now o.refuses in
+    record {
+      out = subst (λ (out : Option (List ℕ)). AddsFront t.out (due_task task w not_sliced).out out) (sym (ap (λ (q : Told). q.out) o.writes.told_is)) fronts.out;
+      err = subst (λ (err : Option (List ℕ)). AddsFront t.err (due_task task w not_sliced).err err) (sym (ap (λ (q : Told). q.err) o.writes.told_is)) fronts.err;
     }
 
 -- all that follows from the outcome
@@ -211,18 +241,19 @@ pub record Follows (t : Told) (d : Due) (before now : Faults) (answer : Answer) 
   pub causes : CanRise before → NoneRose before now → answer ≢ Refused refusals.NoMemory → IsCaused d before now answer
   pub fronts : AddsFronts t d new
 
-pub follows : (t : Told) (task : Result Task Refusal) (w : World) (before now : Faults) (answer : Answer) (new : Told) → Outcome t task w before answer new now → Follows t (due_task task w) before now answer new
-follows t task w before now answer new o = record {
-  headline = headline_of t task w before now answer new o;
-  causes = causes_of t task w before now answer new o;
-  fronts = fronts_of t task w before now answer new o;
+pub follows : (t : Told) (task : Result Task Refusal) (w : World) (first : PacerState) (before after : Faults) (answer : Answer) (new : Told) (now : PacerState) → Outcome t task w first before answer new after now
+    → Follows t (due_task task w (slicing_in answer)) before after answer new
+follows t task w first before after answer new now o = record {
+  headline = headline_of t task w first before after answer new now o;
+  causes = causes_of t task w first before after answer new now o;
+  fronts = fronts_of t task w first before after answer new now o;
 }
 
 -- from the outcome of a refusal
-pub refused_follows : (t : Told) (task : Result Task Refusal) (w : World) (refusal : Refusal) (before middle now : Faults) (mid new : Told) → Refuses t task w refusal mid → CausedBy refusal before middle → WritesLine refusal mid new middle now
-    → Follows t (due_task task w) before now (Refused refusal) new
-refused_follows t task w refusal before middle now mid new refuses caused writes =
-    follows t task w before now (Refused refusal) new (record { mid = mid; middle = middle; refuses = refuses; caused = caused; writes = writes })
+pub refused_follows : (t : Told) (task : Result Task Refusal) (w : World) (first : PacerState) (refusal : Refusal) (before middle after : Faults) (mid new : Told) (now : PacerState) → Refuses t task w first refusal mid now → CausedBy refusal before middle
+    → WritesLine refusal mid new middle after → Follows t (due_task task w not_sliced) before after (Refused refusal) new
+refused_follows t task w first refusal before middle after mid new now refuses caused writes =
+    follows t task w first before after (Refused refusal) new now (record { mid = mid; middle = middle; refuses = refuses; caused = caused; writes = writes })
 
 -- the refusals that the words and the file decide
 decided_one : (task : Result Task Refusal) (refusal r : Refusal) → task ≡ Err refusal → (Refused refusal ≡ Refused r) ↔ (task ≡ Err r)

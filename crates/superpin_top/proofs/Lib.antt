@@ -1,9 +1,7 @@
-pub mod Plain
-pub mod Accepted
 pub mod Causes
 pub mod Outcomes
 pub mod Ready
 pub mod Fronts
 pub mod Headline
 pub mod Texts
-pub mod Colons
+pub mod Engines

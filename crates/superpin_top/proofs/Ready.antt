@@ -12,17 +12,24 @@ use Rattle.elf_load.specs.Image.{ImageFields}
 use Rattle.elf_load.specs.declared.fault.ElfFault.{ElfFault}
 use Rattle.guest_model.specs.Call.{World}
 use Rattle.guest_model.specs.declared.platform.TheConstants.{MOST_STRINGS}
-use Rattle.guest_mem.specs.Memory.{free_frames}
 use Rattle.rv_machine.specs.Load.{strings_size}
 use Rattle.sp_report.specs.declared.answer.Refusal.{Refusal}
 use Rattle.sp_report.specs.declared.answer.Refusal.TheVariants as refusals
-use Rattle.superpin_top.specs.Causes.{refusal_of_read}
-use Rattle.superpin_top.specs.Tools.{meaning_of}
-use Rattle.superpin_top.specs.Words.{Asked, ToRun, ToView, Request, asked, asked_run, asked_view, asked_with_view}
-use Rattle.superpin_top.specs.Due.{Task, Runs, Shows, task_in, task_of, task_of_asked, task_of_file, task_of_tested}
-use Rattle.superpin_top.specs.Outcome.{IsAccepted, IsDecided, Refuses}
-use Rattle.superpin_top.specs.Top.{ImageGives, IsBefore, IsLate, LoadGives, ReadGives, TextGives}
-use Rattle.superpin_top.specs.declared.run.Done.{Done}
+use Rattle.sp_report.specs.declared.answer.Answer.{Answer}
+use Rattle.sp_report.specs.declared.answer.Answer.TheVariants as answers
+use Rattle.sp_report.specs.declared.answer.UsageKind.{UsageKind}
+use Rattle.master_run.specs.Answers.{PacerState}
+use Rattle.sp_words.specs.Asked.{Answers, RunWanted, ToDemo, ToRun, ToView, Wanted, wanted_of, words_wanted}
+use Rattle.sp_words.specs.declared.asked.Asked.{Asked}
+use Rattle.sp_words.specs.declared.asked.By.{By}
+use Rattle.sp_words.specs.declared.asked.By.TheVariants.{Windows}
+use Rattle.sp_words.specs.declared.asked.WordFault.{WordFault}
+use Rattle.sp_words.specs.declared.asked.WordFault.TheVariants as words
+use Rattle.superpin_top.specs.Causes.{refusal_of_read, refusal_of_words}
+use Rattle.superpin_top.specs.Due.{Task, Runs, Shows, by_wanted, program_of, run_task, strings_of, task_in, task_of, task_of_file, task_of_image, task_of_tested, task_of_wanted, view_task}
+use Rattle.superpin_top.specs.Outcome.{IsAccepted, IsDecided, OfText, Refuses}
+use Rattle.superpin_top.specs.Top.{ImageGives, IsBefore, IsLate, IsOfWords, IsPastWords, LoadGives, ReadGives, TextGives, answer_by}
+use Rattle.superpin_top.specs.declared.engine.Done.{Done}
 use Rattle.superpin_top.specs.declared.top.Loaded.{Loaded}
 use Rattle.superpin_top.proofs.Outcomes.{refused_before}
 
@@ -32,127 +39,129 @@ unread file reads.FileFault fits = tt
 unread file reads.FileTooLarge fits = fits
 unread file reads.NoMemory fits = tt
 
--- a file that is refused
-pub tested_fault : (file : List ℕ) (fault : ElfFault) (a : Asked) → refusal_of file ≡ Some fault → task_of_tested (refusal_of file) file a ≡ Err (refusals.Elf fault)
-tested_fault file fault a is = ap (λ (o : Option ElfFault). task_of_tested o file a) is
-
-by_size : (file : List ℕ) (r : Request) (long : Bool) → refusal_of file ≡ None → nat_lt MOST_STRINGS (strings_size r.strings) ≡ long
-    → task_of_tested (refusal_of file) file (ToRun r)
-    ≡ (if long then Err (refusals.ArgsTooLong (min (strings_size r.strings) (2 ^ 64 - 1))) else Ok (Runs (record { image = image_of file; strings = r.strings; budget = r.budget; tool = meaning_of (image_of file) r.tool })))
-by_size file r long none is =
-    ap (λ (o : Option ElfFault). task_of_tested o file (ToRun r)) none
-    ∙ ap (λ (b : Bool). if b then Err (refusals.ArgsTooLong (min (strings_size r.strings) (2 ^ 64 - 1))) else Ok (Runs (record { image = image_of file; strings = r.strings; budget = r.budget; tool = meaning_of (image_of file) r.tool }))) is
-
--- strings that are too long
-pub tested_long : (file : List ℕ) (r : Request) (bytes : ℕ) → refusal_of file ≡ None → MOST_STRINGS < strings_size r.strings → bytes ≡ min (strings_size r.strings) (2 ^ 64 - 1)
-    → task_of_tested (refusal_of file) file (ToRun r) ≡ Err (refusals.ArgsTooLong bytes)
-tested_long file r bytes none lt is = by_size file r true none (grind (arith, nat_tests)) ∙ ap (λ (n : ℕ). Err (refusals.ArgsTooLong n)) (sym is)
-
--- a program that is accepted
-pub tested_ok : (file : List ℕ) (r : Request) (image : ImageFields) → refusal_of file ≡ None → strings_size r.strings ≤ MOST_STRINGS → image ≡ image_of file
-    → task_of_tested (refusal_of file) file (ToRun r) ≡ Ok (Runs (record { image = image; strings = r.strings; budget = r.budget; tool = meaning_of image r.tool }))
-tested_ok file r image none le same =
-    by_size file r false none (grind (arith, nat_tests)) ∙ ap (λ (i : ImageFields). Ok (Runs (record { image = i; strings = r.strings; budget = r.budget; tool = meaning_of i r.tool }))) (sym same)
-
--- and an image whose code is shown
-pub tested_shown : (file name : List ℕ) (image : ImageFields) → refusal_of file ≡ None → image ≡ image_of file → task_of_tested (refusal_of file) file (ToView name) ≡ Ok (Shows image)
-tested_shown file name image none same = ap (λ (o : Option ElfFault). task_of_tested o file (ToView name)) none ∙ ap (λ (i : ImageFields). Ok (Shows i)) (sym same)
-
-pub tested_unread : (file : List ℕ) (a : Asked) (refusal : Refusal) → ImageGives file (Err refusal) → IsBefore (task_of_tested (refusal_of file) file a) refusal
-tested_unread file a (refusals.Elf fault) gives = tested_fault file fault a gives
-tested_unread file a refusals.NoMemory gives = tt
-tested_unread file a (refusals.Usage kind) gives = absurd gives
-tested_unread file a refusals.FileFault gives = absurd gives
-tested_unread file a refusals.FileTooLarge gives = absurd gives
-tested_unread file a (refusals.ArgsTooLong bytes) gives = absurd gives
-tested_unread file a (refusals.UnsupportedCall number pc) gives = absurd gives
-tested_unread file a (refusals.BudgetSpent n) gives = absurd gives
-tested_unread file a refusals.InputFault gives = absurd gives
-tested_unread file a (refusals.OutputFault port) gives = absurd gives
-tested_unread file a refusals.ReportFault gives = absurd gives
-tested_unread file a refusals.NotBuilt gives = absurd gives
-
--- a file that is read
-pub read_file : (file : List ℕ) (a : Asked) → length file ≤ most_file → task_of_file file a ≡ task_of_tested (refusal_of file) file a
-read_file file a le = ap (λ (b : Bool). if b then Err refusals.FileTooLarge else task_of_tested (refusal_of file) file a) (is_no (nat_lt most_file (length file)) refl)
+-- a file that is not too large
+pub read_file : (file : List ℕ) (task : Result Task Refusal) → length file ≤ most_file → task_of_file file task ≡ task_of_tested (refusal_of file) task
+read_file file task le = ap (λ (b : Bool). if b then Err refusals.FileTooLarge else task_of_tested (refusal_of file) task) (is_no (nat_lt most_file (length file)) refl)
   where
     is_no : (b : Bool) → nat_lt most_file (length file) ≡ b → nat_lt most_file (length file) ≡ false
     is_no true e = grind (arith, nat_tests)
     is_no false e = e
 
-large_file : (file : List ℕ) (a : Asked) → most_file < length file → task_of_file file a ≡ Err refusals.FileTooLarge
-large_file file a lt = ap (λ (b : Bool). if b then Err refusals.FileTooLarge else task_of_tested (refusal_of file) file a) (is_yes (nat_lt most_file (length file)) refl)
+large_file : (file : List ℕ) (task : Result Task Refusal) → most_file < length file → task_of_file file task ≡ Err refusals.FileTooLarge
+large_file file task lt = ap (λ (b : Bool). if b then Err refusals.FileTooLarge else task_of_tested (refusal_of file) task) (is_yes (nat_lt most_file (length file)) refl)
   where
     is_yes : (b : Bool) → nat_lt most_file (length file) ≡ b → nat_lt most_file (length file) ≡ true
     is_yes true e = e
     is_yes false e = grind (arith, nat_tests)
 
-pub ready_unread : (file : List ℕ) (a : Asked) (refusal : Refusal) → ReadGives file (Err refusal) → IsBefore (task_of_file file a) refusal
-ready_unread file a (refusals.Usage kind) gives = absurd gives
-ready_unread file a refusals.FileFault gives = tt
-ready_unread file a refusals.FileTooLarge gives = large_file file a gives
-ready_unread file a refusals.NoMemory gives = tt
-ready_unread file a (refusals.Elf fault) gives = absurd gives
-ready_unread file a (refusals.ArgsTooLong bytes) gives = absurd gives
-ready_unread file a (refusals.UnsupportedCall number pc) gives = absurd gives
-ready_unread file a (refusals.BudgetSpent n) gives = absurd gives
-ready_unread file a refusals.InputFault gives = absurd gives
-ready_unread file a (refusals.OutputFault port) gives = absurd gives
-ready_unread file a refusals.ReportFault gives = absurd gives
-ready_unread file a refusals.NotBuilt gives = absurd gives
+-- and has no fault, or one
+sound_file : (file : List ℕ) (task : Result Task Refusal) → length file ≤ most_file → refusal_of file ≡ None → task_of_file file task ≡ task
+sound_file file task le none = read_file file task le ∙ ap (λ (o : Option ElfFault). task_of_tested o task) none
 
--- a file whose bytes are given
-pub given_file : (file given : List ℕ) (a : Asked) → given ≡ file → length file ≤ most_file → task_of_tested (refusal_of given) given a ≡ task_of_file file a
-given_file file given a same le = ap (λ (f : List ℕ). task_of_tested (refusal_of f) f a) same ∙ sym (read_file file a le)
+faulty_file : (file : List ℕ) (task : Result Task Refusal) (fault : ElfFault) → length file ≤ most_file → refusal_of file ≡ Some fault → task_of_file file task ≡ Err (refusals.Elf fault)
+faulty_file file task fault le is = read_file file task le ∙ ap (λ (o : Option ElfFault). task_of_tested o task) is
 
-pub ready_loaded : (file given : List ℕ) (q : Request) (strings : List (List ℕ)) (r : Result Loaded Refusal) → given ≡ file → length file ≤ most_file → LoadGives (task_of_tested (refusal_of given) given (ToRun q)) strings q.budget q.tool r
-    → LoadGives (task_of_file file (ToRun q)) strings q.budget q.tool r
-ready_loaded file given q strings r same le gives =
-    subst (λ (p : Result Task Refusal). LoadGives p strings q.budget q.tool r) (given_file file given (ToRun q) same le) gives
+by_size : (file : List ℕ) (r : RunWanted) (long : Bool) → nat_lt MOST_STRINGS (strings_size (strings_of r)) ≡ long
+    → task_of_image file r ≡ (if long then Err (refusals.ArgsTooLong (min (strings_size (strings_of r)) (2 ^ 64 - 1))) else Ok (Runs (program_of (image_of file) r)))
+by_size file r long is = ap (λ (b : Bool). if b then Err (refusals.ArgsTooLong (min (strings_size (strings_of r)) (2 ^ 64 - 1))) else Ok (Runs (program_of (image_of file) r))) is
 
-pub ready_shown : (file given name : List ℕ) (r : Result (Vec ℕ Global) Refusal) → given ≡ file → length file ≤ most_file → TextGives (task_of_tested (refusal_of given) given (ToView name)) r → TextGives (task_of_file file (ToView name)) r
-ready_shown file given name r same le gives = subst (λ (p : Result Task Refusal). TextGives p r) (given_file file given (ToView name) same le) gives
+-- strings that are too long
+pub long_strings : (file : List ℕ) (r : RunWanted) (bytes : ℕ) → length file ≤ most_file → refusal_of file ≡ None → MOST_STRINGS < strings_size (strings_of r) → bytes ≡ min (strings_size (strings_of r)) (2 ^ 64 - 1)
+    → run_task file r ≡ Err (refusals.ArgsTooLong bytes)
+long_strings file r bytes le none lt is = sound_file file (task_of_image file r) le none ∙ (by_size file r true (grind (arith, nat_tests)) ∙ ap (λ (n : ℕ). Err (refusals.ArgsTooLong n)) (sym is))
+
+-- a program that is accepted
+pub accepted_run : (file : List ℕ) (r : RunWanted) (image : ImageFields) → length file ≤ most_file → refusal_of file ≡ None → strings_size (strings_of r) ≤ MOST_STRINGS → image ≡ image_of file → run_task file r ≡ Ok (Runs (program_of image r))
+accepted_run file r image le none few same =
+    sound_file file (task_of_image file r) le none
+    ∙ (by_size file r false (grind (arith, nat_tests)) ∙ ap (λ (i : ImageFields). Ok (Runs (program_of i r))) (sym same))
+
+-- and an image whose code is shown
+pub accepted_view : (file : List ℕ) (image : ImageFields) → length file ≤ most_file → refusal_of file ≡ None → image ≡ image_of file → view_task file ≡ Ok (Shows image)
+accepted_view file image le none same = sound_file file (Ok (Shows (image_of file))) le none ∙ ap (λ (i : ImageFields). Ok (Shows i)) (sym same)
+
+pub unsound : (file : List ℕ) (task : Result Task Refusal) (refusal : Refusal) → length file ≤ most_file → ImageGives file (Err refusal) → IsBefore (task_of_file file task) refusal
+unsound file task (refusals.Elf fault) le gives = faulty_file file task fault le gives
+unsound file task refusals.NoMemory le gives = tt
+unsound file task (refusals.Usage kind) le gives = absurd gives
+unsound file task refusals.FileFault le gives = absurd gives
+unsound file task refusals.FileTooLarge le gives = absurd gives
+unsound file task (refusals.ArgsTooLong bytes) le gives = absurd gives
+unsound file task (refusals.UnsupportedCall number pc) le gives = absurd gives
+unsound file task (refusals.BudgetSpent n) le gives = absurd gives
+unsound file task refusals.InputFault le gives = absurd gives
+unsound file task (refusals.OutputFault port) le gives = absurd gives
+unsound file task refusals.ReportFault le gives = absurd gives
+unsound file task refusals.NotBuilt le gives = absurd gives
+
+pub unread_task : (file : List ℕ) (task : Result Task Refusal) (refusal : Refusal) → ReadGives file (Err refusal) → IsBefore (task_of_file file task) refusal
+unread_task file task (refusals.Usage kind) gives = absurd gives
+unread_task file task refusals.FileFault gives = tt
+unread_task file task refusals.FileTooLarge gives = large_file file task gives
+unread_task file task refusals.NoMemory gives = tt
+unread_task file task (refusals.Elf fault) gives = absurd gives
+unread_task file task (refusals.ArgsTooLong bytes) gives = absurd gives
+unread_task file task (refusals.UnsupportedCall number pc) gives = absurd gives
+unread_task file task (refusals.BudgetSpent n) gives = absurd gives
+unread_task file task refusals.InputFault gives = absurd gives
+unread_task file task (refusals.OutputFault port) gives = absurd gives
+unread_task file task refusals.ReportFault gives = absurd gives
+unread_task file task refusals.NotBuilt gives = absurd gives
 
 -- what the words ask for
-pub is_asked : (words : List (List ℕ)) (files : Files) (a : Asked) → asked words ≡ Some a → task_in files a ≡ task_of words files
+pub of_words : (words : List (List ℕ)) (files : Files) (wanted : Wanted) → words_wanted words ≡ Ok wanted → task_of words files ≡ task_in files wanted
 unfolding task_of
-is_asked words files a is = sym (ap (λ (o : Option Asked). task_of_asked o files) is)
+of_words words files wanted is = ap (λ (w : Result Wanted UsageKind). task_of_wanted w files) is
 
-pub run_is_asked : (words : List (List ℕ)) (r : Request) → asked_run words ≡ Some r → asked words ≡ Some (ToRun r)
-unfolding asked
-run_is_asked words r is = ap (λ (o : Option Request). asked_with_view o (asked_view words)) is
-
-pub view_is_asked : (words : List (List ℕ)) (file : List ℕ) → asked_run words ≡ None → asked_view words ≡ Some file → asked words ≡ Some (ToView file)
-unfolding asked
-view_is_asked words file none is = ap (λ (o : Option Request). asked_with_view o (asked_view words)) none ∙ ap (λ (o : Option (List ℕ)). asked_with_view None o) is
-
-pub none_asked : (words : List (List ℕ)) → asked_run words ≡ None → asked_view words ≡ None → asked words ≡ None
-unfolding asked
-none_asked words none is = ap (λ (o : Option Request). asked_with_view o (asked_view words)) none ∙ ap (λ (o : Option (List ℕ)). asked_with_view None o) is
-
-pub not_asked : (words : List (List ℕ)) (files : Files) → asked words ≡ None → task_of words files ≡ Err refusals.NotBuilt
+pub of_no_words : (words : List (List ℕ)) (files : Files) (kind : UsageKind) → words_wanted words ≡ Err kind → task_of words files ≡ Err (refusals.Usage kind)
 unfolding task_of
-not_asked words files is = ap (λ (o : Option Asked). task_of_asked o files) is
+of_no_words words files kind is = ap (λ (w : Result Wanted UsageKind). task_of_wanted w files) is
 
--- words in another form
-pub attempt_none : (t new : Told) (words : List (List ℕ)) (files : Files) (w : World) → asked words ≡ None → t.input ≡ Some w.input → t.moments ≡ Some w.moments → new ≡ t → Refuses t (task_of words files) w refusals.NotBuilt new
-attempt_none t new words files w none input moments same = refused_before t new (task_of words files) refusals.NotBuilt w tt (not_asked words files none) input moments same
+-- words that were read were not refused
+pub read_words_pass : (wanted : Result Wanted UsageKind) (asked : Wanted) (r : Result Done Refusal) → wanted ≡ Ok asked → ((refusal : Refusal) → r ≡ Err refusal → IsPastWords refusal) → IsOfWords wanted (answer_by r)
+read_words_pass wanted asked (Ok done) is past = record { only = λ kind e. cc; always = λ kind e. absurd (both kind e) }
+  where
+    both : (kind : UsageKind) → wanted ≡ Err kind → ⊥
+    both kind e = let same : Ok asked ≡ Err kind = sym is ∙ e in cc
+read_words_pass wanted asked (Err refusal) is past = record { only = λ kind e. absurd (named kind e); always = λ kind e. absurd (both kind e) }
+  where
+    named : (kind : UsageKind) → answers.Refused refusal ≡ answers.Refused (refusals.Usage kind) → ⊥
+    named kind e = let same : refusal ≡ refusals.Usage kind = cc in past (refusals.Usage kind) (ap (λ (k : Refusal). Err k) same)
+
+    both : (kind : UsageKind) → wanted ≡ Err kind → ⊥
+    both kind e = let same : Ok asked ≡ Err kind = sym is ∙ e in cc
+
+pub refused_words : (wanted : Result Wanted UsageKind) (fault : WordFault) → Answers wanted (Err fault) → IsOfWords wanted (answers.Refused (refusal_of_words fault))
+refused_words wanted (words.Usage kind) due = record {
+  only = λ other e. let same : kind ≡ other = cc in due ∙ ap (λ (k : UsageKind). Err k) same;
+  always = λ other e. let both : Err kind ≡ Err other = sym due ∙ e in let same : kind ≡ other = cc in inl (ap (λ (k : UsageKind). answers.Refused (refusals.Usage k)) same);
+}
+refused_words wanted words.NoMemory due = record { only = λ kind e. cc; always = λ kind e. inr refl }
+
+pub words_refuse : (t : Told) (texts : List (List ℕ)) (files : Files) (w : World) (first : PacerState) (fault : WordFault) → Answers (words_wanted texts) (Err fault) → t.input ≡ Some w.input → t.moments ≡ Some w.moments
+    → Refuses t (task_of texts files) w first (refusal_of_words fault) t first
+words_refuse t texts files w first (words.Usage kind) due input moments = refused_before t t (task_of texts files) (refusals.Usage kind) w first first tt (of_no_words texts files kind due) input moments refl
+words_refuse t texts files w first words.NoMemory due input moments = inl refl
+
+pub words_decide : (texts : List (List ℕ)) (files : Files) (fault : WordFault) → Answers (words_wanted texts) (Err fault) → IsDecided (task_of texts files) (Err (refusal_of_words fault))
+words_decide texts files (words.Usage kind) due = of_no_words texts files kind due
+words_decide texts files words.NoMemory due = tt
 
 -- a refusal before a run, or before a text is written
-pub unready : (t new : Told) (task : Result Task Refusal) (w : World) (refusal : Refusal) → IsBefore task refusal → t.input ≡ Some w.input → t.moments ≡ Some w.moments → new ≡ t
-    → Refuses t task w refusal new
-unready t new task w (refusals.Usage kind) gives input moments same = absurd gives
-unready t new task w refusals.FileFault gives input moments same = same
-unready t new task w refusals.FileTooLarge gives input moments same = refused_before t new task refusals.FileTooLarge w tt gives input moments same
-unready t new task w (refusals.Elf fault) gives input moments same = refused_before t new task (refusals.Elf fault) w tt gives input moments same
-unready t new task w (refusals.ArgsTooLong bytes) gives input moments same = refused_before t new task (refusals.ArgsTooLong bytes) w tt gives input moments same
-unready t new task w refusals.NoMemory gives input moments same = inl same
-unready t new task w refusals.NotBuilt gives input moments same = absurd gives
-unready t new task w (refusals.UnsupportedCall number pc) gives input moments same = absurd gives
-unready t new task w (refusals.BudgetSpent n) gives input moments same = absurd gives
-unready t new task w refusals.InputFault gives input moments same = absurd gives
-unready t new task w (refusals.OutputFault port) gives input moments same = absurd gives
-unready t new task w refusals.ReportFault gives input moments same = absurd gives
+pub unready : (t new : Told) (task : Result Task Refusal) (w : World) (first now : PacerState) (refusal : Refusal) → IsBefore task refusal → t.input ≡ Some w.input → t.moments ≡ Some w.moments → new ≡ t
+    → Refuses t task w first refusal new now
+unready t new task w first now (refusals.Usage kind) gives input moments same = absurd gives
+unready t new task w first now refusals.FileFault gives input moments same = same
+unready t new task w first now refusals.FileTooLarge gives input moments same = refused_before t new task refusals.FileTooLarge w first now tt gives input moments same
+unready t new task w first now (refusals.Elf fault) gives input moments same = refused_before t new task (refusals.Elf fault) w first now tt gives input moments same
+unready t new task w first now (refusals.ArgsTooLong bytes) gives input moments same = refused_before t new task (refusals.ArgsTooLong bytes) w first now tt gives input moments same
+unready t new task w first now refusals.NoMemory gives input moments same = inl same
+unready t new task w first now refusals.NotBuilt gives input moments same = absurd gives
+unready t new task w first now (refusals.UnsupportedCall number pc) gives input moments same = absurd gives
+unready t new task w first now (refusals.BudgetSpent n) gives input moments same = absurd gives
+unready t new task w first now refusals.InputFault gives input moments same = absurd gives
+unready t new task w first now (refusals.OutputFault port) gives input moments same = absurd gives
+unready t new task w first now refusals.ReportFault gives input moments same = absurd gives
 
 -- and what that decides
 pub unready_decides : (task : Result Task Refusal) (refusal : Refusal) → IsBefore task refusal → IsDecided task (Err refusal)
@@ -184,7 +193,3 @@ ran_decides task (Err (refusals.BudgetSpent n)) accepted late = accepted
 ran_decides task (Err refusals.InputFault) accepted late = accepted
 ran_decides task (Err (refusals.OutputFault port)) accepted late = accepted
 ran_decides task (Err refusals.ReportFault) accepted late = accepted
-
--- a new guest's frames
-pub count_of_free : (n : ℕ) → (free_frames n).count ≡ n
-count_of_free n = refl

@@ -6,6 +6,8 @@ use Rattle.sp_host.specs.declared.whole.ReadFault.{ReadFault}
 use Rattle.sp_host.specs.declared.whole.ReadFault.TheVariants as reads
 use Rattle.syscall_layer.specs.declared.fault.RunFault.{RunFault}
 use Rattle.syscall_layer.specs.declared.fault.RunFault.TheVariants as runs
+use Rattle.sp_words.specs.declared.asked.WordFault.{WordFault}
+use Rattle.sp_words.specs.declared.asked.WordFault.TheVariants as words
 use Rattle.sp_report.specs.declared.answer.Refusal.{Refusal}
 use Rattle.sp_report.specs.declared.answer.Refusal.TheVariants as refusals
 
@@ -14,6 +16,10 @@ abbrev pub refusal_of_read : ReadFault → Refusal
 refusal_of_read reads.FileFault = refusals.FileFault
 refusal_of_read reads.FileTooLarge = refusals.FileTooLarge
 refusal_of_read reads.NoMemory = refusals.NoMemory
+
+abbrev pub refusal_of_words : WordFault → Refusal
+refusal_of_words (words.Usage kind) = refusals.Usage kind
+refusal_of_words words.NoMemory = refusals.NoMemory
 
 abbrev pub refusal_of_run : RunFault → Refusal
 refusal_of_run (runs.Unsupported number pc) = refusals.UnsupportedCall number pc

@@ -1,9 +1,5 @@
-pub mod Words
-pub mod Accepted
-pub mod Report
-pub mod Start
-pub mod Tools
 pub mod Due
 pub mod Causes
+pub mod Engine
 pub mod Outcome
 pub mod Top

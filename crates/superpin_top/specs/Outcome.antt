@@ -6,6 +6,7 @@ use Rattle.sp_host.specs.declared.host.Port.TheVariants.{Out, Report}
 use Rattle.elf_load.specs.Image.{ImageFields}
 use Rattle.guest_model.specs.Call.{World}
 use Rattle.guest_model.specs.Serial.{sent_at}
+use Rattle.master_run.specs.Answers.{PacerState}
 use Rattle.ordered_merge.specs.declared.merger.SliceLine.{SliceLine}
 use Rattle.syscall_layer.specs.Serve.{PartWritten}
 use Rattle.syscall_layer.specs.Step.{StopsInput}
@@ -16,11 +17,12 @@ use Rattle.sp_report.specs.declared.answer.Answer.TheVariants.{Ended, Refused}
 use Rattle.sp_report.specs.declared.answer.Refusal.{Refusal}
 use Rattle.sp_report.specs.declared.answer.Refusal.TheVariants as refusals
 use Rattle.serial_run.specs.Run.{StepBefore}
-use Rattle.serial_run.specs.Steps.{WantsMemory}
-use Rattle.superpin_top.specs.Start.{Run, steps_of}
-use Rattle.superpin_top.specs.Due.{Due, Program, Task, Runs, Shows, delivered, due_run, due_task, run_of_program}
+use Rattle.sp_words.specs.Due.{Due, Program, delivered, due_run, run_of_program}
+use Rattle.sp_words.specs.Run.{IsSlicedBy, Run, Slicing, steps_of}
+use Rattle.superpin_top.specs.Due.{Task, Runs, Shows, due_task, not_sliced, slicing_in}
+use Rattle.superpin_top.specs.Engine.{WantsWithin}
 use Rattle.superpin_top.specs.Causes.{CausedBy, is_early, is_of_run}
-use Rattle.superpin_top.specs.declared.run.Done.{Done}
+use Rattle.superpin_top.specs.declared.engine.Done.{Done}
 
 -- holds of the files and of the input and moments left, where they are told
 abbrev pub WhereAllTold : Told → (Files → World → Type 0) → Type 0
@@ -31,9 +33,15 @@ pub record IsDue (t : Told) (d : Due) (answer : Answer) (new : Told) : Type 0 wh
   pub answer_is : d.answer ≡ answer
   pub told_is : new ≡ delivered t d []
 
--- a run that ended is due, with a status, no cuts and its lines
+-- a run that ended is due
 abbrev pub IsEndDue : Due → Type 0
-IsEndDue d = (status : ℕ) × (lines : List SliceLine) × (d.answer ≡ Ended status [] lines)
+IsEndDue d = (status : ℕ) × (cuts : List ℕ) × (lines : List SliceLine) × (d.answer ≡ Ended status cuts lines)
+
+-- where what is to be done is a run by windows, this is how it is sliced; nothing else asks the pacer
+abbrev pub IsSlicedFor : Result Task Refusal → World → PacerState → PacerState → Slicing → Type 0
+IsSlicedFor (Ok (Runs p)) w first now s = IsSlicedBy p.engine.by (run_of_program p w) first now s
+IsSlicedFor (Ok (Shows image)) w first now s = now ≡ first
+IsSlicedFor (Err refusal) w first now s = now ≡ first
 
 -- what is to be done is this run
 abbrev pub OfRun : Result Task Refusal → World → (Run → Type 0) → Type 0
@@ -51,23 +59,33 @@ OfText task P = (image : ImageFields) × (task ≡ Ok (Shows image)) × P (view_
 -- a report fault they are the whole run's, and a proper beginning of the report. Memory is wanting before a run, or before a
 -- text is written, where nothing was written; before a call that takes memory; before or behind a step, where the tool may take
 -- memory for an event; or after a run that ended.
-abbrev pub Refuses : Told → Result Task Refusal → World → Refusal → Told → Type 0
-Refuses t task w refusals.FileFault new = new ≡ t
-Refuses t task w refusals.InputFault new = OfRun task w (λ r. StepBefore (steps_of r) (λ q before. StopsInput t q before new))
-Refuses t task w (refusals.OutputFault port) new =
+abbrev pub Refuses : Told → Result Task Refusal → World → PacerState → Refusal → Told → PacerState → Type 0
+Refuses t task w first refusals.FileFault new now = new ≡ t
+Refuses t task w first refusals.InputFault new now = OfRun task w (λ r. StepBefore (steps_of r) (λ q before. StopsInput t q before new))
+Refuses t task w first (refusals.OutputFault port) new now =
     (OfRun task w (λ r. StepBefore (steps_of r) (λ q before. PartWritten t q.world before port (sent_at q) new)))
     ⊎ (OfText task (λ text. (port ≡ Out) × PartSent Out text t new))
-Refuses t task w refusals.ReportFault new =
-    IsEndDue (due_task task w) × PartSent Report (due_task task w).report (delivered t (due_task task w) []) new
-Refuses t task w refusals.NoMemory new =
+Refuses t task w first refusals.ReportFault new now =
+    (s : Slicing) × IsSlicedFor task w first now s × IsEndDue (due_task task w s) × PartSent Report (due_task task w s).report (delivered t (due_task task w s) []) new
+Refuses t task w first refusals.NoMemory new now =
     (new ≡ t)
-    ⊎ (OfRun task w (λ r. StepBefore (steps_of r) (λ q before. WantsMemory r.tool.grows t q before new))
-    ⊎ OfRun task w (λ r. IsEndDue (due_run r) × (new ≡ delivered t (due_run r) [])))
-Refuses t task w refusal new = IsDue t (due_task task w) (Refused refusal) new
+    ⊎ (OfRun task w (λ r. WantsWithin r.by r t new)
+    ⊎ OfRun task w (λ r. IsEndDue (due_run r not_sliced) × (new ≡ delivered t (due_run r not_sliced) [])))
+Refuses t task w first refusal new now = IsDue t (due_task task w not_sliced) (Refused refusal) new
 
-abbrev pub AttemptGives : Told → Result Task Refusal → World → Result Done Refusal → Told → Type 0
-AttemptGives t task w (Ok done) new = ((due_task task w).answer ≡ Ended done.status [] done.lines) × (new ≡ delivered t (due_task task w) (due_task task w).report)
-AttemptGives t task w (Err refusal) new = Refuses t task w refusal new
+-- what a command that was done told of its slices
+abbrev pub done_slicing : Done → Slicing
+done_slicing done = record { cuts = done.cuts; lines = done.lines }
+
+-- a command that was done, with all its bytes
+pub record IsDone (t : Told) (task : Result Task Refusal) (w : World) (first : PacerState) (done : Done) (new : Told) (now : PacerState) : Type 0 where
+  pub answer_is : (due_task task w (done_slicing done)).answer ≡ Ended done.status done.cuts done.lines
+  pub told_is : new ≡ delivered t (due_task task w (done_slicing done)) (due_task task w (done_slicing done)).report
+  pub sliced : IsSlicedFor task w first now (done_slicing done)
+
+abbrev pub AttemptGives : Told → Result Task Refusal → World → PacerState → Result Done Refusal → Told → PacerState → Type 0
+AttemptGives t task w first (Ok done) new now = IsDone t task w first done new now
+AttemptGives t task w first (Err refusal) new now = Refuses t task w first refusal new now
 
 -- the line of a refusal was written, or a proper beginning of it where the count of Report rose
 pub record WritesLine (refusal : Refusal) (old new : Told) (before now : Faults) : Type 0 where
@@ -78,18 +96,29 @@ pub record WritesLine (refusal : Refusal) (old new : Told) (before now : Faults)
   pub cause : ((rest ≡ []) × (now ≡ before)) ⊎ ((rest ≢ []) × Faulted (To Report) before now)
 
 -- Where the outside stood before the line of a refusal, and after it.
-pub record IsRefused (t : Told) (task : Result Task Refusal) (w : World) (refusal : Refusal) (before : Faults) (new : Told) (now : Faults) : Type 0 where
+pub record IsRefused (t : Told) (task : Result Task Refusal) (w : World) (first : PacerState) (refusal : Refusal) (before : Faults) (new : Told) (after : Faults) (now : PacerState) : Type 0 where
   pub mid : Told
   pub middle : Faults
-  pub refuses : Refuses t task w refusal mid
+  pub refuses : Refuses t task w first refusal mid now
   pub caused : CausedBy refusal before middle
-  pub writes : WritesLine refusal mid new middle now
+  pub writes : WritesLine refusal mid new middle after
+
+-- where a run ended, or a text was shown
+pub record IsEnded (t : Told) (task : Result Task Refusal) (w : World) (first : PacerState) (before : Faults) (answer : Answer) (new : Told) (after : Faults) (now : PacerState) : Type 0 where
+  pub answer_is : (due_task task w (slicing_in answer)).answer ≡ answer
+  pub told_is : new ≡ delivered t (due_task task w (slicing_in answer)) (due_task task w (slicing_in answer)).report
+  pub sliced : IsSlicedFor task w first now (slicing_in answer)
+  pub same : after ≡ before
 
 -- the outcome
-abbrev pub Outcome : Told → Result Task Refusal → World → Faults → Answer → Told → Faults → Type 0
-Outcome t task w before (Ended status cuts lines) new now =
-    ((due_task task w).answer ≡ Ended status cuts lines) × (new ≡ delivered t (due_task task w) (due_task task w).report) × (now ≡ before)
-Outcome t task w before (Refused refusal) new now = IsRefused t task w refusal before new now
+abbrev pub Outcome : Told → Result Task Refusal → World → PacerState → Faults → Answer → Told → Faults → PacerState → Type 0
+Outcome t task w first before (Ended status cuts lines) new after now = IsEnded t task w first before (Ended status cuts lines) new after now
+Outcome t task w first before (Refused refusal) new after now = IsRefused t task w first refusal before new after now
+
+-- an answer of a run that ended tells how it was sliced
+abbrev pub TellsSlices : Result Task Refusal → World → PacerState → PacerState → Answer → Type 0
+TellsSlices task w first now (Ended status cuts lines) = IsSlicedFor task w first now (record { cuts = cuts; lines = lines })
+TellsSlices task w first now (Refused refusal) = Unit {0}
 
 -- each count can still rise
 pub record CanRise (f : Faults) : Type 0 where
@@ -128,7 +157,7 @@ IsDecided task (Err _) = IsAccepted task
 
 -- a status is answered only where no count rose
 abbrev pub IsEndedWhereNone : Answer → Faults → Faults → Type 0
-IsEndedWhereNone (Ended status cuts lines) before now = (now ≡ before) × (cuts ≡ [])
+IsEndedWhereNone (Ended status cuts lines) before now = now ≡ before
 IsEndedWhereNone (Refused refusal) before now = Unit {0}
 
 -- a refusal that the words and the file decide comes exactly where they do
@@ -137,8 +166,8 @@ IsEarly task answer = (refusal : Refusal) → is_early refusal ≡ true → (ans
 
 -- where a run that ended is answered as such, and where as a fault of its report
 abbrev pub IsReported : Due → ℕ → ℕ → Answer → Type 0
-IsReported d before now answer = (status : ℕ) (lines : List SliceLine) → d.answer ≡ Ended status [] lines →
-    ((answer ≡ Ended status [] lines) ↔ (now ≡ before)) × ((answer ≡ Refused refusals.ReportFault) ↔ (before < now))
+IsReported d before now answer = (status : ℕ) (cuts : List ℕ) (lines : List SliceLine) → d.answer ≡ Ended status cuts lines →
+    ((answer ≡ Ended status cuts lines) ↔ (now ≡ before)) × ((answer ≡ Refused refusals.ReportFault) ↔ (before < now))
 
 -- The cause of every answer, where memory was found and no call of the run failed: it is the due one, but for a report
 -- fault, which comes exactly where the run ended and the count of Report rose.

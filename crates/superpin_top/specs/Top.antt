@@ -1,16 +1,19 @@
 -- What the parts of the top call answer.
-use Rattle.std.specs.Prelude.{◌≡◌, ◌<◌, ◌≤◌, ◌≢◌, List, ℕ, length, None, Some, Result, Ok, Err, Vec}
+use Rattle.std.specs.Prelude.{◌≡◌, ◌⊎◌, ◌<◌, ◌≤◌, List, [], ℕ, length, None, Some, Result, Ok, Err, Vec}
 use Rattle.std.specs.declared.alloc.Global.{Global}
 use Rattle.sp_host.specs.Whole.{most_file}
 use Rattle.elf_load.specs.Elf.{refusal_of, image_of}
 use Rattle.elf_load.specs.Image.{ImageFields}
 use Rattle.rv_machine.specs.Load.{machine_of}
+use Rattle.sp_report.specs.declared.answer.Answer.{Answer}
+use Rattle.sp_report.specs.declared.answer.Answer.TheVariants.{Ended, Refused}
 use Rattle.sp_report.specs.declared.answer.Refusal.{Refusal}
 use Rattle.sp_report.specs.declared.answer.Refusal.TheVariants as refusals
-use Rattle.superpin_top.specs.Due.{Task, Runs}
+use Rattle.sp_report.specs.declared.answer.UsageKind.{UsageKind}
+use Rattle.sp_words.specs.Asked.{RunWanted, Wanted}
+use Rattle.superpin_top.specs.Due.{Task, Runs, program_of, strings_of}
 use Rattle.superpin_top.specs.Outcome.{OfText}
-use Rattle.superpin_top.specs.Tools.{meaning_of}
-use Rattle.superpin_top.specs.declared.tools.ToolName.{ToolName}
+use Rattle.superpin_top.specs.declared.engine.Done.{Done}
 use Rattle.superpin_top.specs.declared.top.Loaded.{Loaded}
 
 -- the bytes of a file, or that they are too many
@@ -38,10 +41,9 @@ ImageGives file (Err refusals.NoMemory) = Unit {0}
 ImageGives file (Err _) = ⊥
 
 -- the loaded program, or the refusal before its run
-abbrev pub LoadGives : Result Task Refusal → List (List ℕ) → ℕ → ToolName → Result Loaded Refusal → Type 0
-LoadGives task strings budget tool (Ok loaded) =
-    (task ≡ Ok (Runs (record { image = loaded.image; strings = strings; budget = budget; tool = meaning_of loaded.image tool }))) × (loaded.guest.machine ≡ machine_of loaded.image strings)
-LoadGives task strings budget tool (Err refusal) = IsBefore task refusal
+abbrev pub LoadGives : Result Task Refusal → RunWanted → Result Loaded Refusal → Type 0
+LoadGives task r (Ok loaded) = (task ≡ Ok (Runs (program_of loaded.image r))) × (loaded.guest.machine ≡ machine_of loaded.image (strings_of r))
+LoadGives task r (Err refusal) = IsBefore task refusal
 
 -- the text that is to be shown, or the refusal before it is written
 abbrev pub TextGives : Result Task Refusal → Result (Vec ℕ Global) Refusal → Type 0
@@ -59,5 +61,22 @@ IsLate refusals.NotBuilt = ⊥
 IsLate refusal = Unit {0}
 
 -- the words were read
-abbrev pub IsBuilt : Refusal → Type 0
-IsBuilt refusal = refusal ≢ refusals.NotBuilt
+abbrev pub IsPastWords : Refusal → Type 0
+IsPastWords (refusals.Usage kind) = ⊥
+IsPastWords refusals.NotBuilt = ⊥
+IsPastWords refusal = Unit {0}
+
+-- A refusal of the words is that of their first fault, and where they have one, and memory was found, it is what is answered.
+pub record IsOfWords (wanted : Result Wanted UsageKind) (answer : Answer) : Type 0 where
+  pub only : (kind : UsageKind) → answer ≡ Refused (refusals.Usage kind) → wanted ≡ Err kind
+  pub always : (kind : UsageKind) → wanted ≡ Err kind → answer ≡ Refused (refusals.Usage kind) ⊎ answer ≡ Refused refusals.NoMemory
+
+-- the same of a command that was tried
+abbrev pub answer_by : Result Done Refusal → Answer
+answer_by (Ok done) = Ended done.status done.cuts done.lines
+answer_by (Err refusal) = Refused refusal
+
+-- where an answer tells cuts
+abbrev pub cuts_in : Answer → List ℕ
+cuts_in (Ended status cuts lines) = cuts
+cuts_in (Refused refusal) = []

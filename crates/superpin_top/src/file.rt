@@ -1,8 +1,9 @@
 // The file that is asked for.
-ghost use Rattle.std.specs.Prelude.{◌≡◌, None, IfErr, MatchResult};
+ghost use Rattle.std.specs.Prelude.{◌≡◌, ◌≤◌, None, IfErr, IfOk, MatchResult, length};
 ghost use Rattle.sp_host.specs.Told.{WhereTold, file_of};
+ghost use Rattle.sp_host.specs.Whole.{most_file};
 ghost use Rattle.superpin_top.specs.Causes.{CausedBy, cause_of, refusal_of_read};
-ghost use Rattle.superpin_top.specs.Top.{ImageGives, IsBuilt, ReadGives};
+ghost use Rattle.superpin_top.specs.Top.{ImageGives, IsPastWords, ReadGives};
 
 use elf_load::{ElfFault, Image, load};
 use sp_host::{Host, ReadFault, read_whole};
@@ -27,11 +28,12 @@ pub(crate) fn read_program<H: Host>(
     name: &str,
 ) -> Result<Vec<u8>, Refusal>
     ensures told { H.told host.new ≡ H.told host.old }
+    ensures size { IfOk result (λ bytes. length bytes.items ≤ most_file) }
     ensures bytes { WhereTold (H.told host.old).files
         (λ files. ReadGives (file_of files name.now) result) }
     ensures faults { MatchResult result (λ _. H.faults host.new ≡ H.faults host.old)
         (λ e. CausedBy e (H.faults host.old) (H.faults host.new)) }
-    ensures built { IfErr result IsBuilt }
+    ensures past { IfErr result IsPastWords }
 {
     match read_whole(alloc, host, name) {
         Ok(file) => Ok(file),
@@ -43,7 +45,7 @@ pub(crate) fn read_program<H: Host>(
 pub(crate) fn load_image(alloc: Global, file: &[u8]) -> Result<Image, Refusal>
     ensures image { ImageGives file.now result }
     ensures cause { IfErr result (λ e. cause_of e ≡ None) }
-    ensures built { IfErr result IsBuilt }
+    ensures past { IfErr result IsPastWords }
 {
     match load(alloc, file) {
         Ok(image) => Ok(image),

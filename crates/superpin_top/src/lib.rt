@@ -1,12 +1,11 @@
 //! The top call of `superpin`: from the command words to the answer.
 #![tactic(auto)]
 
+mod engine;
 mod file;
-pub mod laws;
 mod program;
 mod report;
 mod run;
-mod tools;
 mod top;
 mod view;
 mod words;

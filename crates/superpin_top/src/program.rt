@@ -2,21 +2,23 @@
 ghost use Rattle.std.specs.Prelude.{◌≡◌, IfOk, IfErr};
 ghost use Rattle.sp_report.specs.Answer.{exit_code_of};
 ghost use Rattle.sp_report.specs.declared.answer.Answer.{Answer};
-ghost use Rattle.superpin_top.specs.Due.{task_of};
+ghost use Rattle.window_run.specs.Windows.{shows};
+ghost use Rattle.superpin_top.specs.Due.{task_of, texts};
 ghost use Rattle.superpin_top.specs.Outcome.{Outcome, WhereAllTold, WritesLine};
-ghost use Rattle.superpin_top.specs.Words.{texts};
 
 use crate::top::{refuse, superpin};
-use sp_host::{Host, ListPacer, Pacer, StdHost};
-use sp_report::{Answer, Refusal, exit_code};
+use sp_host::{Host, Pacer, StdHost, TimePacer};
+use sp_report::{Answer, Refusal, UsageKind, exit_code};
 use std::alloc::Global;
 use std::env;
 use std::io::ErrorKind;
 use std::process::ExitCode;
+use std::thread::Threads;
 
 /// Answers the command words, or says why they could not be read, and gives the exit status: that
 /// of the answer.
-pub fn answer_words<H: Host + Send, P: Pacer + Send>(
+pub fn answer_words<H: Host + Send, P: Pacer + Send, R: Threads + Sync>(
+    rt: &R,
     alloc: Global,
     words: Result<Vec<String>, Refusal>,
     host: &mut H,
@@ -25,13 +27,15 @@ pub fn answer_words<H: Host + Send, P: Pacer + Send>(
     ensures read { IfOk words (λ words. WhereAllTold (H.told host.old) (λ files w.
         (answer : Answer) × (result ≡ exit_code_of answer) ×
         Outcome (H.told host.old) (task_of (texts words.items) files) w
-        (H.faults host.old) answer (H.told host.new) (H.faults host.new))) }
+        (shows (P.period_shown pacer.old) (P.tally pacer.old) (P.answers pacer.old))
+        (H.faults host.old) answer (H.told host.new) (H.faults host.new)
+        (shows (P.period_shown pacer.new) (P.tally pacer.new) (P.answers pacer.new)))) }
     ensures unread { IfErr words (λ refusal. (result ≡ 125) ×
         WritesLine refusal (H.told host.old) (H.told host.new) (H.faults host.old) (H.faults host.new)) }
 {
     match words {
         Ok(words) => {
-            let answer = superpin(alloc, &words, host, pacer);
+            let answer = superpin(rt, alloc, &words, host, pacer);
             exit_code(&answer)
         }
         Err(refusal) => {
@@ -41,13 +45,12 @@ pub fn answer_words<H: Host + Send, P: Pacer + Send>(
     }
 }
 
-// The command words without the program's own name. Words that are no UTF-8 text are in no form
-// that is built.
+// The command words without the program's own name. Words that are no UTF-8 text are in no form.
 fn command_words(rt: &HostRuntime) -> Result<Vec<String>, Refusal> {
     let args = match env::args(rt) {
         Ok(args) => args,
         Err(e) if e.kind() == ErrorKind::OutOfMemory => return Err(Refusal::NoMemory),
-        Err(_) => return Err(Refusal::NotBuilt),
+        Err(_) => return Err(Refusal::Usage(UsageKind::Form)),
     };
     let mut words = Vec::new(rt.alloc());
     for word in args.skip(1) {
@@ -58,11 +61,11 @@ fn command_words(rt: &HostRuntime) -> Result<Vec<String>, Refusal> {
     Ok(words)
 }
 
-/// The whole program over the system.
-pub fn run_program(rt: HostRuntime) -> ExitCode {
+/// The whole program over the system, whose threads are made by `threads`.
+pub fn run_program<R: Threads + Sync>(rt: HostRuntime, threads: &R) -> ExitCode {
     let alloc = rt.alloc();
     let words = command_words(&rt);
-    let mut pacer = ListPacer::new(Vec::new(alloc));
+    let mut pacer = TimePacer::new(rt);
     let mut host = StdHost::new(rt);
-    ExitCode::from(answer_words(alloc, words, &mut host, &mut pacer))
+    ExitCode::from(answer_words(threads, alloc, words, &mut host, &mut pacer))
 }

@@ -1,20 +1,20 @@
 // The text of a file's code.
-ghost use Rattle.std.specs.Prelude.{◌≡◌, IfErr, IfOk, List, MatchResult, None, ℕ};
+ghost use Rattle.std.specs.Prelude.{◌≡◌, ◌≤◌, [], IfErr, IfOk, MatchResult, None, length};
 ghost use Rattle.sp_report.specs.View.{view_text};
-ghost use Rattle.sp_host.specs.Told.{WhereTold};
-ghost use Rattle.elf_load.specs.Elf.{refusal_of};
+ghost use Rattle.sp_host.specs.Told.{WhereTold, file_of};
+ghost use Rattle.sp_host.specs.Whole.{most_file};
+ghost use Rattle.master_run.specs.Answers.{PacerState};
 ghost use Rattle.superpin_top.specs.Causes.{CausedBy, cause_of};
-ghost use Rattle.superpin_top.specs.Due.{task_in, task_of_tested};
+ghost use Rattle.superpin_top.specs.Due.{view_task};
 ghost use Rattle.superpin_top.specs.Outcome.{AttemptGives, IsDecided, WhereAllTold};
-ghost use Rattle.superpin_top.specs.Top.{IsBuilt, TextGives};
-ghost use Rattle.superpin_top.specs.Words.{ToView};
+ghost use Rattle.superpin_top.specs.Top.{IsPastWords, TextGives};
 
+use crate::engine::Done;
 use crate::file::{load_image, read_program};
-use crate::run::Done;
 use elf_load::Image;
 use ins_views::Views;
 use sp_host::{Host, Port, write_whole};
-use sp_report::{Lines, Refusal, view_text};
+use sp_report::{Cuts, Lines, Refusal, view_text};
 use std::alloc::{AllocError, Global};
 
 // The text of an image's code.
@@ -25,12 +25,12 @@ fn image_text(alloc: Global, image: &Image) -> Result<Vec<u8>, AllocError>
     view_text(alloc, image, &views)
 }
 
-// The text of the code of a file.
+// The text of the code of a file, which is not too large.
 fn file_text(alloc: Global, file: &[u8]) -> Result<Vec<u8>, Refusal>
-    ensures text { (name : List ℕ) →
-        TextGives (task_of_tested (refusal_of file.now) file.now (ToView name)) result }
+    requires { length file.now ≤ most_file }
+    ensures text { TextGives (view_task file.now) result }
     ensures cause { IfErr result (λ e. cause_of e ≡ None) }
-    ensures built { IfErr result IsBuilt }
+    ensures past { IfErr result IsPastWords }
 {
     let image = match load_image(alloc, file) {
         Ok(image) => image,
@@ -46,10 +46,10 @@ fn file_text(alloc: Global, file: &[u8]) -> Result<Vec<u8>, Refusal>
 fn text_asked<H: Host>(alloc: Global, name: &str, host: &mut H) -> Result<Vec<u8>, Refusal>
     ensures told { H.told host.new ≡ H.told host.old }
     ensures text { WhereTold (H.told host.old).files
-        (λ files. TextGives (task_in files (ToView name.now)) result) }
+        (λ files. TextGives (view_task (file_of files name.now)) result) }
     ensures faults { MatchResult result (λ _. H.faults host.new ≡ H.faults host.old)
         (λ e. CausedBy e (H.faults host.old) (H.faults host.new)) }
-    ensures built { IfErr result IsBuilt }
+    ensures past { IfErr result IsPastWords }
 {
     let file = match read_program(alloc, host, name) {
         Ok(file) => file,
@@ -62,12 +62,13 @@ fn text_asked<H: Host>(alloc: Global, name: &str, host: &mut H) -> Result<Vec<u8
 /// before its first byte is written.
 pub(crate) fn view_asked<H: Host>(alloc: Global, name: &str, host: &mut H) -> Result<Done, Refusal>
     ensures early { WhereTold (H.told host.old).files
-        (λ files. IsDecided (task_in files (ToView name.now)) result) }
-    ensures told { WhereAllTold (H.told host.old) (λ files w. AttemptGives (H.told host.old)
-        (task_in files (ToView name.now)) w result (H.told host.new)) }
+        (λ files. IsDecided (view_task (file_of files name.now)) result) }
+    ensures told { (pacer : PacerState) → WhereAllTold (H.told host.old) (λ files w. AttemptGives (H.told host.old)
+        (view_task (file_of files name.now)) w pacer result (H.told host.new) pacer) }
     ensures faults { MatchResult result (λ _. H.faults host.new ≡ H.faults host.old)
         (λ e. CausedBy e (H.faults host.old) (H.faults host.new)) }
-    ensures built { IfErr result IsBuilt }
+    ensures past { IfErr result IsPastWords }
+    ensures uncut { IfOk result (λ done. done.cuts ≡ []) }
 {
     let text = match text_asked(alloc, name, host) {
         Ok(text) => text,
@@ -76,6 +77,7 @@ pub(crate) fn view_asked<H: Host>(alloc: Global, name: &str, host: &mut H) -> Re
     match write_whole(host, Port::Out, &text) {
         Ok(()) => Ok(Done {
             status: 0,
+            cuts: Cuts::none(alloc),
             lines: Lines::none(alloc),
         }),
         Err(_) => Err(Refusal::OutputFault { port: Port::Out }),

@@ -153,7 +153,7 @@ fn faults_are_told(rt: HostRuntime) -> Result<(), Fail> {
         outside.input = b"ab".to_vec(alloc)?;
         plan(&mut outside, row.failing)?;
         outside.plan.most = most;
-        let done = run(alloc, row.words, outside)?;
+        let done = run(&rt, alloc, row.words, outside)?;
         assert!(rt; is_wanted(&done.answer, row.answer), "row {k}");
         assert!(rt;
             are(&done.out, row.out) && are(&done.err, row.err),

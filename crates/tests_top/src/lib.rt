@@ -14,4 +14,6 @@ mod tools;
 #[cfg(test)]
 mod views;
 #[cfg(test)]
+mod windows;
+#[cfg(test)]
 mod words;

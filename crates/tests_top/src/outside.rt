@@ -4,6 +4,7 @@ ghost use Rattle.std.specs.Prelude.{◌≡◌, ◌<◌};
 use sp_host::{FaultPlan, ListPacer, MemoryHost, Port};
 use std::alloc::Global;
 use std::test::Fail;
+use std::thread::Threads;
 use superpin_top::{Answer, Refusal, exit_code, superpin};
 
 /// The words of a serial run of the file `f`.
@@ -70,14 +71,32 @@ pub(crate) fn owned(alloc: Global, words: &[&str]) -> Result<Vec<String>, Fail> 
     Ok(all)
 }
 
-/// Calls the program with these words.
-pub(crate) fn run(alloc: Global, words: &[&str], outside: Outside) -> Result<Done, Fail>
+/// Calls the program with these words, and a pacer that grants nothing.
+pub(crate) fn run<R: Threads + Sync>(
+    rt: &R,
+    alloc: Global,
+    words: &[&str],
+    outside: Outside,
+) -> Result<Done, Fail>
+    requires { 0 < outside.plan.most }
+{
+    run_paced(rt, alloc, words, outside, &[])
+}
+
+/// Calls the program with these words, and a pacer that gives these answers.
+pub(crate) fn run_paced<R: Threads + Sync>(
+    rt: &R,
+    alloc: Global,
+    words: &[&str],
+    outside: Outside,
+    answers: &[bool],
+) -> Result<Done, Fail>
     requires { 0 < outside.plan.most }
 {
     let mut host = host_of(alloc, outside)?;
     let words = owned(alloc, words)?;
-    let mut pacer = ListPacer::new(Vec::new(alloc));
-    let answer = superpin(alloc, &words, &mut host, &mut pacer);
+    let mut pacer = ListPacer::new(answers.to_vec(alloc)?);
+    let answer = superpin(rt, alloc, &words, &mut host, &mut pacer);
     Ok(Done {
         answer,
         out: host.written(Port::Out).to_vec(alloc)?,
@@ -91,14 +110,19 @@ pub(crate) fn are(bytes: &[u8], wanted: &[u8]) -> bool {
     bytes.len() == wanted.len() && bytes.starts_with(wanted)
 }
 
-/// Whether the run ended with this status and without a cut.
-pub(crate) fn is_ended(answer: &Answer, wanted: u8) -> bool {
+/// Whether the run ended with this status, cut at these positions.
+pub(crate) fn is_cut(answer: &Answer, wanted: u8, positions: &[u64]) -> bool {
     match answer {
         Answer::Ended { status, cuts, .. } => {
-            *status == wanted && exit_code(answer) == wanted && cuts.positions().is_empty()
+            *status == wanted && exit_code(answer) == wanted && cuts.positions() == positions
         }
         Answer::Refused(_) => false,
     }
+}
+
+/// Whether the run ended with this status and without a cut.
+pub(crate) fn is_ended(answer: &Answer, wanted: u8) -> bool {
+    is_cut(answer, wanted, &[])
 }
 
 /// Whether the run ended with one line, of so many instructions, so many calls and four zeros.

@@ -58,7 +58,7 @@ fn runs_are_refused(rt: HostRuntime) -> Result<(), Fail> {
     let alloc = rt.alloc();
     for (k, row) in ROWS.iter().enumerate() {
         let outside = outside_of(alloc, one_segment(alloc, row.code)?, 65_536);
-        let done = run(alloc, row.words, outside)?;
+        let done = run(&rt, alloc, row.words, outside)?;
         assert!(rt; is_wanted(&done.answer, row.answer), "row {k}");
         assert!(rt; are(&done.out, row.out), "row {k}");
         assert!(rt; are(&done.report, row.report), "row {k}");
@@ -122,7 +122,7 @@ fn files_are_refused(rt: HostRuntime) -> Result<(), Fail> {
         if let Some(byte) = bytes.get_mut(row.place) {
             *byte = row.value;
         }
-        let done = run(alloc, &SERIAL, outside_of(alloc, bytes, 65_536))?;
+        let done = run(&rt, alloc, &SERIAL, outside_of(alloc, bytes, 65_536))?;
         assert!(rt; is_refused(&done.answer, row.refusal), "row {k}");
         assert!(rt; are(&done.report, row.report), "row {k}");
         assert!(rt; done.out.is_empty() && done.err.is_empty(), "row {k}");
@@ -160,6 +160,7 @@ fn strings_are_counted(rt: HostRuntime) -> Result<(), Fail> {
         }
         let words = ["run", "--by", "serial", "f", argument.as_str()];
         let done = run(
+            &rt,
             alloc,
             &words,
             outside_of(alloc, one_segment(alloc, &EXIT_7)?, 65_536),

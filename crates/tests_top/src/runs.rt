@@ -4,6 +4,7 @@ use crate::outside::{HELLO, READ_TWICE, SERIAL, are, has_one_line, is_ended, out
 use sample_files::{EXIT_7, LOAD_PAST_DATA, one_segment, two_segments};
 use std::alloc::{AllocError, Global};
 use std::test::Fail;
+use std::thread::Threads;
 
 // A program, what it meets, and what it leaves. It has a second segment of 0x2000 zeros at 0x20000
 // where `data` is true.
@@ -42,11 +43,11 @@ fn program(alloc: Global, row: &Row) -> Result<Vec<u8>, AllocError> {
     }
 }
 
-fn holds(alloc: Global, row: &Row) -> Result<bool, Fail> {
+fn holds<R: Threads + Sync>(rt: &R, alloc: Global, row: &Row) -> Result<bool, Fail> {
     let mut outside = outside_of(alloc, program(alloc, row)?, 65_536);
     outside.input = row.input.to_vec(alloc)?;
     outside.moments = row.moments.to_vec(alloc)?;
-    let done = run(alloc, &SERIAL, outside)?;
+    let done = run(rt, alloc, &SERIAL, outside)?;
     Ok(
         is_ended(&done.answer, row.status)
             && has_one_line(&done.answer, row.steps, row.calls)
@@ -94,7 +95,7 @@ const EXITS: [Row; 4] = [
 #[test]
 fn programs_exit(rt: HostRuntime) -> Result<(), Fail> {
     for (k, row) in EXITS.iter().enumerate() {
-        let holds = holds(rt.alloc(), row)?;
+        let holds = holds(&rt, rt.alloc(), row)?;
         assert!(rt; holds, "row {k}");
     }
     Ok(())
@@ -171,7 +172,7 @@ const CALLS: [Row; 6] = [
 #[test]
 fn programs_call(rt: HostRuntime) -> Result<(), Fail> {
     for (k, row) in CALLS.iter().enumerate() {
-        let holds = holds(rt.alloc(), row)?;
+        let holds = holds(&rt, rt.alloc(), row)?;
         assert!(rt; holds, "row {k}");
     }
     Ok(())
@@ -222,7 +223,7 @@ const SIGNALS: [Row; 5] = [
 #[test]
 fn programs_fault(rt: HostRuntime) -> Result<(), Fail> {
     for (k, row) in SIGNALS.iter().enumerate() {
-        let holds = holds(rt.alloc(), row)?;
+        let holds = holds(&rt, rt.alloc(), row)?;
         assert!(rt; holds, "row {k}");
     }
     Ok(())
@@ -275,6 +276,7 @@ fn a_cut_word_runs_and_is_not_counted(rt: HostRuntime) -> Result<(), Fail> {
     let alloc = rt.alloc();
     for (k, row) in CUTS.iter().enumerate() {
         let done = run(
+            &rt,
             alloc,
             &SERIAL,
             outside_of(alloc, cut_program(alloc, row)?, 65_536),

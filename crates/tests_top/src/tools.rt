@@ -4,6 +4,7 @@ use crate::outside::{HELLO, are, is_ended, is_refused, outside_of, run};
 use sample_files::{EXIT_7, LOAD_PAST_DATA, one_segment, two_segments};
 use std::alloc::{AllocError, Global};
 use std::test::Fail;
+use std::thread::Threads;
 use superpin_top::Refusal;
 
 // A program, and what each tool reports. It has a second segment of 0x2000 zeros at 0x20000 where `data` is true.
@@ -100,9 +101,10 @@ fn program(alloc: Global, row: &Row) -> Result<Vec<u8>, AllocError> {
 }
 
 // Whether the tool of this name reports this.
-fn reports(alloc: Global, row: &Row, tool: &str, text: &str) -> Result<bool, Fail> {
+fn reports<R: Threads + Sync>(rt: &R, alloc: Global, row: &Row, tool: &str, text: &str) -> Result<bool, Fail> {
     let words = ["run", "--tool", tool, "--by", "serial", "f"];
     let done = run(
+        rt,
         alloc,
         &words,
         outside_of(alloc, program(alloc, row)?, 65_536),
@@ -116,10 +118,10 @@ fn reports(alloc: Global, row: &Row, tool: &str, text: &str) -> Result<bool, Fai
 fn tools_report(rt: HostRuntime) -> Result<(), Fail> {
     let alloc = rt.alloc();
     for (k, row) in ROWS.iter().enumerate() {
-        let holds = reports(alloc, row, "icount", row.icount)?
-            && reports(alloc, row, "bcount", row.bcount)?
-            && reports(alloc, row, "mix", row.mix)?
-            && reports(alloc, row, "blocks", row.blocks)?;
+        let holds = reports(&rt, alloc, row, "icount", row.icount)?
+            && reports(&rt, alloc, row, "bcount", row.bcount)?
+            && reports(&rt, alloc, row, "mix", row.mix)?
+            && reports(&rt, alloc, row, "blocks", row.blocks)?;
         assert!(rt; holds, "row {k}");
     }
     Ok(())
@@ -188,14 +190,14 @@ const RECONCILED: [Reconciled; 5] = [
     },
 ];
 
-fn holds(alloc: Global, row: &Reconciled) -> Result<bool, Fail> {
+fn holds<R: Threads + Sync>(rt: &R, alloc: Global, row: &Reconciled) -> Result<bool, Fail> {
     let words = ["run", "--tool", row.tool, "--by", "serial", "f"];
     let file = if row.data {
         two_segments(alloc, row.code)?
     } else {
         one_segment(alloc, row.code)?
     };
-    let done = run(alloc, &words, outside_of(alloc, file, 65_536))?;
+    let done = run(rt, alloc, &words, outside_of(alloc, file, 65_536))?;
     Ok(is_ended(&done.answer, row.status) && are(&done.report, row.text.as_bytes()))
 }
 
@@ -203,7 +205,7 @@ fn holds(alloc: Global, row: &Reconciled) -> Result<bool, Fail> {
 fn reconciling_tools_report(rt: HostRuntime) -> Result<(), Fail> {
     let alloc = rt.alloc();
     for (k, row) in RECONCILED.iter().enumerate() {
-        assert!(rt; holds(alloc, row)?, "row {k}");
+        assert!(rt; holds(&rt, alloc, row)?, "row {k}");
     }
     Ok(())
 }
@@ -215,6 +217,7 @@ fn budget_leaves_no_report(rt: HostRuntime) -> Result<(), Fail> {
         "run", "--by", "serial", "--tool", "blocks", "--budget", "2", "f",
     ];
     let done = run(
+        &rt,
         alloc,
         &words,
         outside_of(alloc, one_segment(alloc, &EXIT_7)?, 65_536),

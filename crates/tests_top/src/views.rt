@@ -7,6 +7,7 @@ use sample_files::{EXIT_7, one_segment};
 use sp_host::Port;
 use std::alloc::{AllocError, Global};
 use std::test::Fail;
+use std::thread::Threads;
 use superpin_top::Refusal;
 
 const VIEW: [&str; 2] = ["view", "f"];
@@ -50,7 +51,8 @@ fn bytes_of(alloc: Global, words: &[u32]) -> Result<Vec<u8>, AllocError> {
 }
 
 // Whether `view` answers so, and leaves these bytes on the standard output and on the port of reports alone.
-fn leaves(
+fn leaves<R: Threads + Sync>(
+    rt: &R,
     alloc: Global,
     outside: Outside,
     answer: Wanted,
@@ -59,7 +61,7 @@ fn leaves(
 ) -> Result<bool, Fail>
     requires { 0 < outside.plan.most }
 {
-    let done = run(alloc, &VIEW, outside)?;
+    let done = run(rt, alloc, &VIEW, outside)?;
     Ok(
         is_wanted(&done.answer, answer)
             && has_no_line(&done.answer)
@@ -73,10 +75,11 @@ fn leaves(
 fn code_is_shown(rt: HostRuntime) -> Result<(), Fail> {
     let alloc = rt.alloc();
     let one = outside_of(alloc, one_segment(alloc, &EXIT_7)?, 65_536);
-    assert!(rt; leaves(alloc, one, Wanted::Status(0), EXIT_7_TEXT.as_bytes(), "")?);
+    assert!(rt; leaves(&rt, alloc, one, Wanted::Status(0), EXIT_7_TEXT.as_bytes(), "")?);
     let two = outside_of(alloc, bytes_of(alloc, &TWO_OF_CODE)?, 65_536);
     assert!(rt;
         leaves(
+            &rt,
             alloc,
             two,
             Wanted::Status(0),
@@ -92,11 +95,11 @@ fn view_is_refused(rt: HostRuntime) -> Result<(), Fail> {
     let alloc = rt.alloc();
     let script = outside_of(alloc, b"#!/bin/sh\n".to_vec(alloc)?, 65_536);
     let short = Wanted::Refusal(Refusal::Elf(ElfFault::TooShort));
-    assert!(rt; leaves(alloc, script, short, b"", "superpin: 4 elf 1 TooShort\n")?);
+    assert!(rt; leaves(&rt, alloc, script, short, b"", "superpin: 4 elf 1 TooShort\n")?);
     let mut unread = outside_of(alloc, one_segment(alloc, &EXIT_7)?, 65_536);
     unread.plan.file.push(1)?;
     let fault = Wanted::Refusal(Refusal::FileFault);
-    assert!(rt; leaves(alloc, unread, fault, b"", "superpin: 2 file fault\n")?);
+    assert!(rt; leaves(&rt, alloc, unread, fault, b"", "superpin: 2 file fault\n")?);
     Ok(())
 }
 
@@ -114,11 +117,12 @@ fn a_write_fails(rt: HostRuntime) -> Result<(), Fail> {
     let alloc = rt.alloc();
     let fault = Wanted::Refusal(Refusal::OutputFault { port: Port::Out });
     let third = with_failing_write(alloc, 3)?;
-    assert!(rt; leaves(alloc, third, fault, b"0x", "superpin: 9 output fault Out\n")?);
+    assert!(rt; leaves(&rt, alloc, third, fault, b"0x", "superpin: 9 output fault Out\n")?);
     let last = with_failing_write(alloc, 95)?;
     let all_but_one = &EXIT_7_TEXT.as_bytes()[..94];
     assert!(rt;
         leaves(
+            &rt,
             alloc,
             last,
             fault,
@@ -127,6 +131,6 @@ fn a_write_fails(rt: HostRuntime) -> Result<(), Fail> {
         )?
     );
     let after = with_failing_write(alloc, 96)?;
-    assert!(rt; leaves(alloc, after, Wanted::Status(0), EXIT_7_TEXT.as_bytes(), "")?);
+    assert!(rt; leaves(&rt, alloc, after, Wanted::Status(0), EXIT_7_TEXT.as_bytes(), "")?);
     Ok(())
 }

@@ -2,24 +2,37 @@
 use crate::outside::{SERIAL, are, host_of, is_ended, is_refused, outside_of, owned, run};
 use sample_files::{EXIT_7, one_segment};
 use sp_host::{ListPacer, Port};
+use sp_report::{OptionName, UsageKind};
 use std::test::Fail;
 use superpin_top::{Refusal, answer_words};
 
-const BUILT: [&[&str]; 5] = [
-    &["run", "--by", "serial", "f", "a", ""],
-    &["run", "--budget", "1099511627776", "--by", "serial", "f"],
-    &["run", "--by", "serial", "--budget", "3", "f"],
-    &["run", "--tool", "icount", "--by", "serial", "f"],
+const RUNS: [&[&str]; 5] = [
+    &["run", "--by", "serial", "f", "-a", ""],
+    &["run", "--budget=1099511627776", "--by", "windows", "f"],
+    &["run", "f"],
     &[
-        "run", "--budget", "3", "--by", "serial", "--tool", "icount", "f",
+        "run",
+        "--limit",
+        "1",
+        "--records",
+        "1",
+        "--frames",
+        "64",
+        "--",
+        "f",
+        "--by",
+    ],
+    &[
+        "run", "--msec", "1", "--poll", "1", "--budget", "3", "--tool", "icount", "f",
     ],
 ];
 
 #[test]
 fn words_are_read(rt: HostRuntime) -> Result<(), Fail> {
     let alloc = rt.alloc();
-    for (k, words) in BUILT.iter().enumerate() {
+    for (k, words) in RUNS.iter().enumerate() {
         let done = run(
+            &rt,
             alloc,
             words,
             outside_of(alloc, one_segment(alloc, &EXIT_7)?, 65_536),
@@ -30,50 +43,62 @@ fn words_are_read(rt: HostRuntime) -> Result<(), Fail> {
     Ok(())
 }
 
-const NOT_BUILT: [&[&str]; 28] = [
-    &[],
-    &["run"],
-    &["run", "f"],
-    &["run", "--by", "serial"],
-    &["run", "--by", "windows", "f"],
-    &["run", "--by", "serial", "-f"],
-    &["run", "--by", "serial", "f", "-a"],
-    &["run", "--by", "serial", "--by", "serial", "f"],
-    &["run", "--by", "serial", "--budget", "0", "f"],
-    &["run", "--by", "serial", "--budget", "03", "f"],
-    &["run", "--by", "serial", "--budget", "+3", "f"],
-    &["run", "--by", "serial", "--budget", "1099511627777", "f"],
-    &["run", "--tool", "icount", "f"],
-    &["run", "--by", "serial", "--tool", "f"],
-    &["run", "--by", "serial", "--tool", "icounts", "f"],
-    &["run", "--by", "serial", "--tool", "cache:", "f"],
-    &["run", "--by", "serial", "--tool", "cache:64", "f"],
-    &["run", "--by", "serial", "--tool", "cache:3:16", "f"],
-    &["run", "--by", "serial", "--tool", "cache:2:2", "f"],
-    &["run", "--by", "serial", "--tool", "cache:02:16", "f"],
-    &["run", "--by", "serial", "--tool", "cache:8192:16", "f"],
-    &["run", "--by", "serial", "--tool", "cache:2:16:4", "f"],
-    &[
-        "run", "--by", "serial", "--tool", "mix", "--tool", "mix", "f",
-    ],
-    &["view"],
-    &["view", "f", "g"],
-    &["view", "-f"],
-    &["view", "--by", "serial", "f"],
-    &["View", "f"],
+// Words, and what they are refused for, with its line.
+struct Row {
+    words: &'static [&'static str],
+    kind: UsageKind,
+    report: &'static [u8],
+}
+
+const REFUSED: [Row; 6] = [
+    Row {
+        words: &[],
+        kind: UsageKind::NoCommand,
+        report: b"superpin: 1 usage no command\n",
+    },
+    Row {
+        words: &["walk"],
+        kind: UsageKind::UnknownCommand,
+        report: b"superpin: 1 usage unknown command\n",
+    },
+    Row {
+        words: &["run"],
+        kind: UsageKind::Form,
+        report: b"superpin: 1 usage form\n",
+    },
+    Row {
+        words: &["view", "f", "g"],
+        kind: UsageKind::Form,
+        report: b"superpin: 1 usage form\n",
+    },
+    Row {
+        words: &["run", "--limit", "33", "a"],
+        kind: UsageKind::BadValue {
+            option: OptionName::Limit,
+        },
+        report: b"superpin: 1 usage value of --limit\n",
+    },
+    Row {
+        words: &["demo", "x"],
+        kind: UsageKind::BadValue {
+            option: OptionName::N,
+        },
+        report: b"superpin: 1 usage value of N\n",
+    },
 ];
 
 #[test]
 fn other_words_are_refused(rt: HostRuntime) -> Result<(), Fail> {
     let alloc = rt.alloc();
-    for (k, words) in NOT_BUILT.iter().enumerate() {
+    for (k, row) in REFUSED.iter().enumerate() {
         let done = run(
+            &rt,
             alloc,
-            words,
+            row.words,
             outside_of(alloc, one_segment(alloc, &EXIT_7)?, 65_536),
         )?;
-        assert!(rt; is_refused(&done.answer, Refusal::NotBuilt), "row {k}");
-        assert!(rt; are(&done.report, b"superpin: 90 not built\n"), "row {k}");
+        assert!(rt; is_refused(&done.answer, Refusal::Usage(row.kind)), "row {k}");
+        assert!(rt; are(&done.report, row.report), "row {k}");
     }
     Ok(())
 }
@@ -86,11 +111,11 @@ fn words_are_answered(rt: HostRuntime) -> Result<(), Fail> {
         alloc,
         outside_of(alloc, one_segment(alloc, &EXIT_7)?, 65_536),
     )?;
-    let status = answer_words(alloc, Ok(owned(alloc, &SERIAL)?), &mut host, &mut pacer);
+    let status = answer_words(&rt, alloc, Ok(owned(alloc, &SERIAL)?), &mut host, &mut pacer);
     assert!(rt; status == 7);
     assert!(rt; are(host.written(Port::Report), b"icount 3\nend exit 7\n"));
     let mut host = host_of(alloc, outside_of(alloc, Vec::new(alloc), 65_536))?;
-    let status = answer_words(alloc, Err(Refusal::NoMemory), &mut host, &mut pacer);
+    let status = answer_words(&rt, alloc, Err(Refusal::NoMemory), &mut host, &mut pacer);
     assert!(rt; status == 125);
     assert!(rt; are(host.written(Port::Report), b"superpin: 11 no memory\n"));
     Ok(())

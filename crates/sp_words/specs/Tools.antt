@@ -1,5 +1,5 @@
 -- What each tool means.
-use Rattle.std.specs.Prelude.{◌≡◌, ℕ, Bool, true, false, List}
+use Rattle.std.specs.Prelude.{Bool, true, false, List, ℕ}
 use Rattle.std.specs.FinMap as table
 use Rattle.elf_load.specs.Image.{ImageFields}
 use Rattle.ins_views.specs.Views.{ViewFields, views_of}
@@ -16,11 +16,10 @@ use Rattle.tool_calls.specs.Text.{call_lines}
 use Rattle.tool_calls.specs.Trace.{trace}
 use Rattle.cache_tool.specs.Cache.{simulate}
 use Rattle.cache_tool.specs.Calls.{cache_calls}
-use Rattle.cache_tool.specs.Sizes.{is_line, is_sets}
 use Rattle.cache_tool.specs.Text.{cache_text}
-use Rattle.superpin_top.specs.Start.{ToolMeaning}
-use Rattle.superpin_top.specs.declared.tools.ToolName.{ToolName}
-use Rattle.superpin_top.specs.declared.tools.ToolName.TheVariants.{Icount, Bcount, Mix, Blocks, Calls, Cache}
+use Rattle.sp_words.specs.Run.{ToolMeaning}
+use Rattle.sp_words.specs.declared.asked.ToolName.{ToolName}
+use Rattle.sp_words.specs.declared.asked.ToolName.TheVariants.{Icount, Bcount, Mix, Blocks, Calls, Cache}
 
 -- a tool that asks for these calls, and makes this text of the events that they give
 abbrev pub with_calls : ViewFields → Bool → (Thing → List Call) → (List Event → List ℕ) → ToolMeaning
@@ -34,11 +33,6 @@ meaning_in views Mix = with_calls views false mix_calls (λ xs. mix_text (mix_of
 meaning_in views Blocks = with_calls views true profile_calls (λ xs. profile_text views (table.entries (tally xs)))
 meaning_in views Calls = with_calls views true trace_calls (λ xs. call_lines views (trace xs).calls)
 meaning_in views (Cache sets line) = with_calls views false cache_calls (λ xs. cache_text sets line (simulate sets line xs))
-
--- a cache has sizes that it may have
-abbrev pub HasSizes : ToolName → Type 0
-HasSizes (Cache sets line) = (is_sets sets ≡ true) × (is_line line ≡ true)
-HasSizes tool = Unit {0}
 
 abbrev pub meaning_of : ImageFields → ToolName → ToolMeaning
 meaning_of image tool = meaning_in (views_of image) tool
