@@ -1,5 +1,5 @@
 -- From what the two engines answer to what an engine answers.
-use Rattle.std.proofs.Common.{◌≡◌, ℕ, List, [], ◌∷◌, refl, ap, sym, subst, ◌∙◌}
+use Rattle.std.proofs.Common.{◌≡◌, ◌/◌, ℕ, List, [], ◌∷◌, refl, ap, sym, subst, ◌∙◌}
 use Rattle.std.specs.Prelude.{Bool, Option, Result, Ok, Err, IfOk}
 use Rattle.sp_host.specs.Tally.{Tally}
 use Rattle.sp_host.specs.Told.{Told}
@@ -11,7 +11,7 @@ use Rattle.ordered_merge.specs.declared.finished.Finished.{Finished}
 use Rattle.ordered_merge.specs.declared.merger.SliceLine.{SliceLine}
 use Rattle.serial_run.specs.Run.{RunEnds, RunGives, whole_line}
 use Rattle.sp_report.specs.Lines.{end_by}
-use Rattle.sp_words.specs.Run.{IsSliced, IsSlicedBy, Run, Slicing, ToolMeaning, slicing_of, steps_of}
+use Rattle.sp_words.specs.Run.{IsSliced, IsSlicedBy, Run, ToolMeaning, slicing_of, steps_of}
 use Rattle.sp_words.specs.declared.asked.By.{By}
 use Rattle.sp_words.specs.declared.asked.By.TheVariants.{Serial, Windows}
 use Rattle.syscall_layer.specs.declared.fault.RunFault.{RunFault}
@@ -51,7 +51,7 @@ windows_ends is_value t m tool how w first middle now f new by paced gives =
       end = end_by f.end;
       ends = gives.by_step;
       answers = gives.answers;
-      answered = subst (λ (p : PacerState). HasAnswered gives.answers _ p now) paced gives.answered;
+      answered = subst (λ (p : PacerState). HasAnswered gives.answers (gives.steps / how.limits.poll) p now) paced gives.answered;
       cuts = gives.cuts;
       lines = gives.lines;
     } in

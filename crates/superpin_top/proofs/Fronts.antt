@@ -17,7 +17,6 @@ use Rattle.syscall_layer.specs.Serve.{InputPart, PartWritten, told_after}
 use Rattle.syscall_layer.specs.Step.{StopsInput, world_of}
 use Rattle.serial_run.specs.Run.{StepBefore}
 use Rattle.serial_run.specs.Steps.{WantsMemory}
-use Rattle.window_run.specs.Windows.{StandsBetween}
 use Rattle.sp_words.specs.Due.{Due, due_ended, due_run, due_state}
 use Rattle.sp_words.specs.Run.{Run, Slicing, steps_of}
 use Rattle.sp_words.specs.declared.asked.By.{By}

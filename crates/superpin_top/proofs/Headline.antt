@@ -1,5 +1,5 @@
 -- What follows from the outcome.
-use Rattle.std.proofs.Common.{◌≡◌, ◌≢◌, ◌<◌, ◌-◌, ◌^◌, ◌++◌, ◌⊎◌, ℕ, List, [], take, drop, refl, ap, sym, subst, ◌∙◌, arith, inl, inr}
+use Rattle.std.proofs.Common.{◌≡◌, ◌≢◌, ◌<◌, ◌+◌, ◌-◌, ◌^◌, ◌++◌, ◌⊎◌, ℕ, List, [], take, drop, refl, ap, sym, subst, ◌∙◌, arith, inl, inr}
 use Rattle.std.specs.Prelude.{Option, Result, Ok, Err, true, false, ◌||◌, ◌↔◌}
 use Rattle.std.proofs.lemmas.List.{append-nil, take-append-drop}
 use Rattle.sp_host.specs.Told.{Told, PartSent, appended, sent as sent_to}
@@ -19,10 +19,11 @@ use Rattle.sp_report.specs.declared.answer.Refusal.{Refusal}
 use Rattle.sp_report.specs.declared.answer.Refusal.TheVariants as refusals
 use Rattle.superpin_top.specs.Causes.{CausedBy, is_early, is_of_run}
 use Rattle.master_run.specs.Answers.{PacerState}
-use Rattle.sp_words.specs.Due.{Due, Program, delivered, due_ended, due_run, due_sliced, due_state, run_of_program}
+use Rattle.sp_words.specs.Due.{Due, Program, delivered, due_ended, due_run, due_state, run_of_program}
 use Rattle.sp_words.specs.Run.{Run, Slicing, slicing_of}
 use Rattle.superpin_top.specs.Due.{Task, Runs, Shows, due_shown, due_task, not_sliced, slicing_in}
-use Rattle.superpin_top.specs.Outcome.{IsAccepted, IsDecided, IsDue, IsEndDue, IsEarly, Refuses, WritesLine, Outcome, IsEnded, IsRefused, CanRise, NoneRose, IsDelivered, IsCaused, AddsFront}
+use Rattle.superpin_top.specs.Outcome.{IsAccepted, IsDecided, IsDone, IsDue, done_slicing, IsEndDue, IsEarly, Refuses, WritesLine, Outcome, IsRefused, CanRise, NoneRose, IsDelivered, IsCaused, AddsFront}
+use Rattle.superpin_top.specs.declared.engine.Done.{Done}
 use Rattle.superpin_top.proofs.Causes.{count_after, rose_by, line_kept, line_report}
 use Rattle.superpin_top.proofs.Outcomes.{delivered_report}
 use Rattle.superpin_top.proofs.Fronts.{AddsFronts, due_err, due_out, input_fronts, output_fronts, memory_fronts}
@@ -167,9 +168,9 @@ causes_of t task w first before after (Refused refusals.NoMemory) new now o can 
 causes_of t task w first before after (Refused refusals.ReportFault) new now o can none some =
     let rose : before.report < after.report = omega (arith, rose_by (To ports.Report) before o.middle o.caused.0 can.report, line_report refusals.ReportFault o.mid new o.middle after o.writes) in
     let s = o.refuses.0 in
-    let ended = ended_any task w s not_sliced o.refuses.2.0 in
+    let ended = ended_any task w s not_sliced o.refuses.2 in
     record {
-      refused = λ r due. ((λ e. absurd (report_none r due e)), λ e. absurd (never_ended (due_task task w not_sliced) ended.0 ended.1.0 ended.1.1.0 r ended.1.1.1 e));
+      refused = λ r due. ((λ e. absurd (report_none r due e)), λ e. absurd (never_ended (due_task task w not_sliced) ended.0 ended.1 ended.2 r ended.3 e));
       reported = λ status cuts lines e. (((λ h. cc), λ same. absurd (omega (arith, rose, same))), ((λ _. rose), λ _. refl));
       no_report = λ _. ended;
     }
@@ -234,6 +235,10 @@ fronts_of t task w first before after (Refused refusal) new now o =
       out = subst (λ (out : Option (List ℕ)). AddsFront t.out (due_task task w not_sliced).out out) (sym (ap (λ (q : Told). q.out) o.writes.told_is)) fronts.out;
       err = subst (λ (err : Option (List ℕ)). AddsFront t.err (due_task task w not_sliced).err err) (sym (ap (λ (q : Told). q.err) o.writes.told_is)) fronts.err;
     }
+
+-- a command that was done sent all that is due
+pub done_fronts : (t : Told) (task : Result Task Refusal) (w : World) (first : PacerState) (done : Done) (new : Told) (now : PacerState) → IsDone t task w first done new now → AddsFronts t (due_task task w (done_slicing done)) new
+done_fronts t task w first done new now is = all_sent t new (due_task task w (done_slicing done)) _ is.told_is
 
 -- all that follows from the outcome
 pub record Follows (t : Told) (d : Due) (before now : Faults) (answer : Answer) (new : Told) : Type 0 where

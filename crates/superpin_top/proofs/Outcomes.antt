@@ -1,6 +1,6 @@
 -- From what the parts answer to what is due.
-use Rattle.std.proofs.Common.{inl, inr, ◌≡◌, ℕ, List, [], ◌∷◌, refl, ap, sym, subst, ◌∙◌}
-use Rattle.std.specs.Prelude.{Bool, Option, Some, Ok, Err, Result}
+use Rattle.std.proofs.Common.{inl, inr, ◌≡◌, ℕ, List, [], refl, ap, sym, subst, ◌∙◌}
+use Rattle.std.specs.Prelude.{Option, Some, Ok, Err, Result}
 use Rattle.sp_host.specs.Told.{Told, appended, sent as sent_to, PartSent}
 use Rattle.sp_host.specs.declared.host.Port.TheVariants.{Out, Report}
 use Rattle.sp_host.proofs.Told.{appended-nil, appended-more}
@@ -8,7 +8,6 @@ use Rattle.guest_model.specs.Call.{World}
 use Rattle.guest_model.specs.Machine.{Machine}
 use Rattle.guest_model.specs.Runs.{RunState, Running, Ended as RunEnded}
 use Rattle.guest_model.specs.Serial.{Position, End, Exit, Signal, Unsupported, run_of, sent_of, trace_of}
-use Rattle.ordered_merge.specs.declared.merger.SliceLine.{SliceLine}
 use Rattle.rv_machine.specs.Load.{machine_of}
 use Rattle.rv_machine.specs.Step.{kind_number, status_of}
 use Rattle.rv_machine.specs.declared.step.End.{End as GuestEnd}
@@ -22,16 +21,16 @@ use Rattle.sp_report.specs.declared.answer.Answer.TheVariants.{Ended, Refused}
 use Rattle.sp_report.specs.declared.answer.Refusal.{Refusal}
 use Rattle.sp_report.specs.declared.answer.Refusal.TheVariants as refusals
 use Rattle.master_run.specs.Answers.{PacerState}
-use Rattle.serial_run.specs.Run.{EndsAt, RunFails, RunLacks}
+use Rattle.serial_run.specs.Run.{EndsAt, RunLacks}
 use Rattle.window_run.specs.Windows.{WindowsFail}
-use Rattle.sp_words.specs.Due.{Due, Program, delivered, due_refused, due_run, due_sliced, due_state, report_of, run_of_program}
+use Rattle.sp_words.specs.Due.{Due, Program, delivered, due_refused, due_run, due_state, report_of, run_of_program}
 use Rattle.sp_words.specs.Run.{IsSlicedBy, Run, Slicing, slicing_of, steps_of}
 use Rattle.sp_words.specs.declared.asked.By.{By}
 use Rattle.sp_words.specs.declared.asked.By.TheVariants.{Serial, Windows}
 use Rattle.superpin_top.specs.Causes.{refusal_of_run}
-use Rattle.superpin_top.specs.Due.{Task, Runs, due_shown, due_task, not_sliced}
+use Rattle.superpin_top.specs.Due.{Task, Runs, due_shown, not_sliced}
 use Rattle.superpin_top.specs.Engine.{EngineFails, WantsWithin, run_from}
-use Rattle.superpin_top.specs.Outcome.{IsDue, IsDone, IsEndDue, IsSlicedFor, OfText, Refuses, AttemptGives, done_slicing}
+use Rattle.superpin_top.specs.Outcome.{IsDue, OfText, Refuses, AttemptGives, done_slicing}
 use Rattle.superpin_top.specs.declared.engine.Done.{Done}
 
 -- where the input and the moments are told, a run begins here

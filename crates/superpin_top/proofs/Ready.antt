@@ -1,7 +1,6 @@
 -- The program that the words ask for, from the parts of the top call.
-use Rattle.std.proofs.Common.{◌≡◌, ◌<◌, ◌≤◌, ◌-◌, ◌^◌, ℕ, List, length, refl, ap, sym, subst, ◌∙◌, arith, inl}
-use Rattle.std.specs.declared.alloc.Global.{Global}
-use Rattle.std.specs.Prelude.{Option, None, Some, Result, Ok, Err, Vec, Bool, true, false, nat_lt, min, if◌then◌else◌}
+use Rattle.std.proofs.Common.{◌≡◌, ◌<◌, ◌≤◌, ◌-◌, ◌^◌, ℕ, List, length, refl, ap, sym, ◌∙◌, arith, inl, inr}
+use Rattle.std.specs.Prelude.{Option, None, Some, Result, Ok, Err, Bool, true, false, nat_lt, min, if◌then◌else◌}
 use Rattle.std.proofs.lemmas.Bool.Decides.{nat_tests}
 use Rattle.sp_host.specs.Told.{Told, Files}
 use Rattle.sp_host.specs.Whole.{most_file, FaultFits}
@@ -15,22 +14,17 @@ use Rattle.guest_model.specs.declared.platform.TheConstants.{MOST_STRINGS}
 use Rattle.rv_machine.specs.Load.{strings_size}
 use Rattle.sp_report.specs.declared.answer.Refusal.{Refusal}
 use Rattle.sp_report.specs.declared.answer.Refusal.TheVariants as refusals
-use Rattle.sp_report.specs.declared.answer.Answer.{Answer}
 use Rattle.sp_report.specs.declared.answer.Answer.TheVariants as answers
 use Rattle.sp_report.specs.declared.answer.UsageKind.{UsageKind}
 use Rattle.master_run.specs.Answers.{PacerState}
-use Rattle.sp_words.specs.Asked.{Answers, RunWanted, ToDemo, ToRun, ToView, Wanted, wanted_of, words_wanted}
-use Rattle.sp_words.specs.declared.asked.Asked.{Asked}
-use Rattle.sp_words.specs.declared.asked.By.{By}
-use Rattle.sp_words.specs.declared.asked.By.TheVariants.{Windows}
+use Rattle.sp_words.specs.Asked.{Answers, RunWanted, Wanted, words_wanted}
 use Rattle.sp_words.specs.declared.asked.WordFault.{WordFault}
 use Rattle.sp_words.specs.declared.asked.WordFault.TheVariants as words
 use Rattle.superpin_top.specs.Causes.{refusal_of_read, refusal_of_words}
-use Rattle.superpin_top.specs.Due.{Task, Runs, Shows, by_wanted, program_of, run_task, strings_of, task_in, task_of, task_of_file, task_of_image, task_of_tested, task_of_wanted, view_task}
-use Rattle.superpin_top.specs.Outcome.{IsAccepted, IsDecided, OfText, Refuses}
-use Rattle.superpin_top.specs.Top.{ImageGives, IsBefore, IsLate, IsOfWords, IsPastWords, LoadGives, ReadGives, TextGives, answer_by}
+use Rattle.superpin_top.specs.Due.{Task, Runs, Shows, program_of, run_task, strings_of, task_in, task_of, task_of_file, task_of_image, task_of_tested, task_of_wanted, view_task}
+use Rattle.superpin_top.specs.Outcome.{IsAccepted, IsDecided, Refuses}
+use Rattle.superpin_top.specs.Top.{ImageGives, IsBefore, IsLate, IsOfWords, IsPastWords, ReadGives, answer_by}
 use Rattle.superpin_top.specs.declared.engine.Done.{Done}
-use Rattle.superpin_top.specs.declared.top.Loaded.{Loaded}
 use Rattle.superpin_top.proofs.Outcomes.{refused_before}
 
 -- a file that was not read

@@ -1,5 +1,5 @@
 -- The due answer: what the words, the files, the input and the moments alone determine, and where a run is sliced, its slicing.
-use Rattle.std.specs.Prelude.{◌≡◌, ◌≢◌, ℕ, ◌-◌, ◌^◌, List, [], ◌∷◌, length, map, nat_lt, min, Option, None, Some, Result, Ok, Err, String, string_bytes, if◌then◌else◌}
+use Rattle.std.specs.Prelude.{ℕ, ◌-◌, ◌^◌, List, [], ◌∷◌, length, map, nat_lt, min, Option, None, Some, Result, Ok, Err, String, string_bytes, if◌then◌else◌}
 use Rattle.std.specs.declared.alloc.Global.{Global}
 use Rattle.sp_host.specs.Told.{Files, file_of}
 use Rattle.sp_host.specs.Whole.{most_file}

@@ -1,10 +1,9 @@
 -- What the engine of a run answers, serial or by windows, and what it does to what a host tells and to what a pacer shows.
-use Rattle.std.specs.Prelude.{◌≡◌, ◌⊎◌, ℕ, Bool, List, [], Result, Ok, Err}
+use Rattle.std.specs.Prelude.{◌≡◌, ℕ, List, Result, Ok, Err}
 use Rattle.sp_host.specs.Told.{Told}
 use Rattle.guest_model.specs.Call.{World}
 use Rattle.guest_model.specs.Machine.{Machine}
-use Rattle.guest_model.specs.Runs.{Ended as RunEnded}
-use Rattle.guest_model.specs.Serial.{Position, TraceItem, run_of, trace_of}
+use Rattle.guest_model.specs.Serial.{Position, TraceItem, trace_of}
 use Rattle.guest_model.specs.declared.platform.TheConstants.{MOST_PAGES}
 use Rattle.master_run.specs.Answers.{PacerState}
 use Rattle.ordered_merge.specs.declared.finished.Finished.{Finished}

@@ -89,7 +89,17 @@ pub(crate) fn run_guest<T: Tool, H: Host + Send, P: Pacer + Send, R: Threads + S
         By::Serial => run_serial(alloc, plan, views, guest, how.limits.budget, tool, host),
         By::Windows => {
             pacer.period(how.msec);
-            run_windows(rt, alloc, plan, views, guest, &how.limits, tool, host, pacer)
+            run_windows(
+                rt,
+                alloc,
+                plan,
+                views,
+                guest,
+                &how.limits,
+                tool,
+                host,
+                pacer,
+            )
         }
     }
 }

@@ -1,10 +1,9 @@
 use Rattle.std.proofs.Common.{ℕ, List, refl, ap, sym, subst, ◌∙◌}
 use Rattle.std.specs.Prelude.{Ok}
-use Rattle.sp_host.specs.Told.{Told}
 use Rattle.guest_model.specs.Serial.{trace_of}
 use Rattle.ins_views.specs.Views.{ViewFields, views_of}
 use Rattle.insert_points.specs.declared.call.Event.{Event}
-use Rattle.master_run.specs.Answers.{PacerState}
+use Rattle.ordered_merge.specs.declared.merger.SliceLine.{SliceLine}
 use Rattle.sp_report.specs.Lines.{end_by}
 use Rattle.sp_report.specs.declared.answer.Refusal.{Refusal}
 use Rattle.sp_words.specs.Due.{Program, report_of, run_of_program}
@@ -63,7 +62,8 @@ returns-in-Ok-write_whole-clause-told g c w strings input moments begins =
     let whole = c.deref.ensures.value ∙ (c.in-Ok-report.ensures (trace_events calls c.in-Ok.views (trace_of r.budget r.start)) gives.value
     ∙ ap (λ (v : ViewFields). report_of c.args.how.slices (g.T.Tool.text_of c.args.tool.now v (g.T.Tool.value c.args.tool.now (trace_events calls v (trace_of r.budget r.start)))) (end_by finished.end) finished.lines.items) c.in-Ok.ensures) in
     reported t p w first now finished.end mid (g.H.Host.told c.write_whole.new.host) (sliced_by finished) (p.tool.text (trace_of r.budget r.start)) c.deref.result.now
-    (record { status = c.status.result; cuts = c.new.result; lines = c.new-2.result }) done whole c.in-Ok-write_whole.ensures.told c.status.ensures ?
+    (record { status = c.status.result; cuts = c.new-in-Ok-write_whole.result; lines = c.new-in-Ok-write_whole-2.result }) done whole c.in-Ok-write_whole.ensures.told c.status.ensures
+    (ap (λ (cuts : List ℕ). record { cuts = cuts; lines = c.new-in-Ok-write_whole-2.result }) c.new-in-Ok-write_whole.ensures ∙ ap (λ (lines : List SliceLine). record { cuts = finished.cuts.items; lines = lines }) c.new-in-Ok-write_whole-2.ensures)
 
 pub returns-clause-told : goal.returns-clause-told
 returns-clause-told g c w strings input moments begins =

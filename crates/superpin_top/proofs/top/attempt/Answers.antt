@@ -1,70 +1,59 @@
-use Rattle.std.proofs.Common.{refl, sym, subst, ◌∙◌}
-use Rattle.std.specs.Prelude.{Result, IfErr}
+use Rattle.std.proofs.Common.{refl, ap, sym, subst, ◌∙◌}
+use Rattle.std.specs.Prelude.{Result}
 use Rattle.sp_report.specs.declared.answer.Refusal.{Refusal}
-use Rattle.superpin_top.specs.Due.{Task}
-use Rattle.superpin_top.specs.Outcome.{AttemptGives, IsDecided}
-use Rattle.superpin_top.specs.Top.{IsBuilt}
-use Rattle.superpin_top.specs.Words.{Request, ToRun, ToView, texts}
-use Rattle.superpin_top.specs.declared.run.Done.{Done}
-use Rattle.superpin_top.proofs.Ready.{attempt_none, is_asked, none_asked, not_asked, run_is_asked, view_is_asked}
-use Rattle.superpin_top.proofs.Accepted.{budget_asked, sizes_asked}
+use Rattle.sp_report.specs.declared.answer.Refusal.TheVariants as refusals
+use Rattle.sp_words.specs.Asked.{ToDemo, ToRun, ToView, run_of_asked, wanted_of}
+use Rattle.sp_words.specs.Split.{Text}
+use Rattle.sp_words.specs.declared.asked.Asked.{Asked}
+use Rattle.window_run.specs.Windows.{shows}
+use Rattle.superpin_top.specs.Due.{Task, task_of, texts}
+use Rattle.superpin_top.specs.Outcome.{AttemptGives, IsDecided, Refuses}
+use Rattle.std.proofs.Common.{Err, Ok}
+use Rattle.superpin_top.proofs.Outcomes.{refused_before}
+use Rattle.superpin_top.proofs.Ready.{of_words, words_decide, words_refuse}
 use Rattle.superpin_top.proofs.top.attempt.Goals as goal
 
-pub run_asked-requires-clause-budget : goal.run_asked-requires-clause-budget
-run_asked-requires-clause-budget g c = budget_asked (texts c.args.words.now) _ c.in-Some.ensures.asked
+pub returns-in-Ok-Run-clause-early : goal.returns-in-Ok-Run-clause-early
+returns-in-Ok-Run-clause-early g c files files_are =
+    subst (λ (k : Result Task Refusal). IsDecided k c.run_asked.result) (sym (of_words (texts c.args.words.now) files (ToRun (run_of_asked c.in-Ok-Run.run')) (c.in-Ok-Run.ensures ∙ ap (λ (a : Asked). Ok (wanted_of a)) c.in-Ok-Run.field-0-is))) (c.run_asked.ensures.early files files_are)
 
-pub run_asked-requires-clause-sizes : goal.run_asked-requires-clause-sizes
-run_asked-requires-clause-sizes g c = sizes_asked (texts c.args.words.now) _ c.in-Some.ensures.asked
+pub returns-in-Ok-Run-clause-told : goal.returns-in-Ok-Run-clause-told
+returns-in-Ok-Run-clause-told g c files w files_are input moments =
+    let first = shows (g.P.Pacer.period_shown c.args.pacer.now) (g.P.Pacer.tally c.args.pacer.now) (g.P.Pacer.answers c.args.pacer.now) in
+    let now = shows (g.P.Pacer.period_shown c.run_asked.new.pacer) (g.P.Pacer.tally c.run_asked.new.pacer) (g.P.Pacer.answers c.run_asked.new.pacer) in
+    subst (λ (k : Result Task Refusal). AttemptGives (g.H.Host.told c.args.host.now) k w first c.run_asked.result (g.H.Host.told c.run_asked.new.host) now)
+    (sym (of_words (texts c.args.words.now) files (ToRun (run_of_asked c.in-Ok-Run.run')) (c.in-Ok-Run.ensures ∙ ap (λ (a : Asked). Ok (wanted_of a)) c.in-Ok-Run.field-0-is))) (c.run_asked.ensures.told files w files_are input moments)
 
-pub returns-in-Some-clause-words : goal.returns-in-Some-clause-words
-returns-in-Some-clause-words g c = (
-  (λ none. let both = sym (run_is_asked (texts c.args.words.now) _ c.in-Some.ensures.asked) ∙ none in cc),
-  λ e. absurd (subst (λ (r : Result Done Refusal). IfErr r IsBuilt) e c.run_asked.ensures.built refl),
-)
-
-pub returns-in-Some-clause-early : goal.returns-in-Some-clause-early
-returns-in-Some-clause-early g c files files_are =
+pub returns-in-Ok-View-clause-early : goal.returns-in-Ok-View-clause-early
+returns-in-Ok-View-clause-early g c files files_are =
     let words = texts c.args.words.now in
-    let a : Request = record { budget = c.in-Some.asked.budget; tool = c.in-Some.asked.tool; strings = texts c.in-Some.asked.strings.now } in
-    subst (λ (k : Result Task Refusal). IsDecided k c.run_asked.result) (is_asked words files (ToRun a) (run_is_asked words a c.in-Some.ensures.asked)) (c.run_asked.ensures.early files files_are)
+    subst (λ (k : Result Task Refusal). IsDecided k c.view_asked.result) (sym (of_words words files (ToView c.as_str.result.now) (c.in-Ok-View.ensures ∙ (ap (λ (a : Asked). Ok (wanted_of a)) c.in-Ok-View.field-0-is ∙ ap (λ (n : Text). Ok (ToView n)) (sym c.as_str.ensures))))) (c.view_asked.ensures.early files files_are)
 
-pub returns-in-Some-clause-told : goal.returns-in-Some-clause-told
-returns-in-Some-clause-told g c files w files_are input moments =
+pub returns-in-Ok-View-clause-told : goal.returns-in-Ok-View-clause-told
+returns-in-Ok-View-clause-told g c files w files_are input moments =
     let words = texts c.args.words.now in
-    let a : Request = record { budget = c.in-Some.asked.budget; tool = c.in-Some.asked.tool; strings = texts c.in-Some.asked.strings.now } in
-    subst (λ (k : Result Task Refusal). AttemptGives (g.H.Host.told c.args.host.now) k w c.run_asked.result (g.H.Host.told c.run_asked.new.host))
-    (is_asked words files (ToRun a) (run_is_asked words a c.in-Some.ensures.asked)) (c.run_asked.ensures.told files w files_are input moments)
+    let first = shows (g.P.Pacer.period_shown c.args.pacer.now) (g.P.Pacer.tally c.args.pacer.now) (g.P.Pacer.answers c.args.pacer.now) in
+    subst (λ (k : Result Task Refusal). AttemptGives (g.H.Host.told c.args.host.now) k w first c.view_asked.result (g.H.Host.told c.view_asked.new.host) first)
+    (sym (of_words words files (ToView c.as_str.result.now) (c.in-Ok-View.ensures ∙ (ap (λ (a : Asked). Ok (wanted_of a)) c.in-Ok-View.field-0-is ∙ ap (λ (n : Text). Ok (ToView n)) (sym c.as_str.ensures))))) (c.view_asked.ensures.told first files w files_are input moments)
 
-pub returns-in-Some-asked_view-clause-words : goal.returns-in-Some-asked_view-clause-words
-returns-in-Some-asked_view-clause-words g c = (
-  (λ none. let both = sym (view_is_asked (texts c.args.words.now) _ c.in_default.ensures.asked c.in-Some-asked_view.ensures) ∙ none in cc),
-  λ e. absurd (subst (λ (r : Result Done Refusal). IfErr r IsBuilt) e c.view_asked.ensures.built refl),
-)
+pub returns-in-Ok-Demo-clause-early : goal.returns-in-Ok-Demo-clause-early
+returns-in-Ok-Demo-clause-early g c files files_are = of_words (texts c.args.words.now) files (ToDemo c.in-Ok-Demo.field-0-0) (c.in-Ok-Demo.ensures ∙ ap (λ (a : Asked). Ok (wanted_of a)) c.in-Ok-Demo.field-0-is)
 
-pub returns-in-Some-asked_view-clause-early : goal.returns-in-Some-asked_view-clause-early
-returns-in-Some-asked_view-clause-early g c files files_are =
-    let words = texts c.args.words.now in
-    let name = c.in-Some-asked_view.name.now in
-    subst (λ (k : Result Task Refusal). IsDecided k c.view_asked.result)
-    (is_asked words files (ToView name) (view_is_asked words name c.in_default.ensures.asked c.in-Some-asked_view.ensures)) (c.view_asked.ensures.early files files_are)
-
-pub returns-in-Some-asked_view-clause-told : goal.returns-in-Some-asked_view-clause-told
-returns-in-Some-asked_view-clause-told g c files w files_are input moments =
-    let words = texts c.args.words.now in
-    let name = c.in-Some-asked_view.name.now in
-    subst (λ (k : Result Task Refusal). AttemptGives (g.H.Host.told c.args.host.now) k w c.view_asked.result (g.H.Host.told c.view_asked.new.host))
-    (is_asked words files (ToView name) (view_is_asked words name c.in_default.ensures.asked c.in-Some-asked_view.ensures)) (c.view_asked.ensures.told files w files_are input moments)
-
-pub returns-in-None-clause-words : goal.returns-in-None-clause-words
-returns-in-None-clause-words g c = ((λ none. refl), λ e. none_asked (texts c.args.words.now) c.in_default.ensures.asked c.in-None.ensures)
-
-pub returns-in-None-clause-early : goal.returns-in-None-clause-early
-returns-in-None-clause-early g c files files_are =
-    let words = texts c.args.words.now in
-    not_asked words files (none_asked words c.in_default.ensures.asked c.in-None.ensures)
-
-pub returns-in-None-clause-told : goal.returns-in-None-clause-told
-returns-in-None-clause-told g c files w files_are input moments =
-    let words = texts c.args.words.now in
+pub returns-in-Ok-Demo-clause-told : goal.returns-in-Ok-Demo-clause-told
+returns-in-Ok-Demo-clause-told g c files w files_are input moments =
     let t = g.H.Host.told c.args.host.now in
-    attempt_none t t words files w (none_asked words c.in_default.ensures.asked c.in-None.ensures) input moments refl
+    let words = texts c.args.words.now in
+    let first = shows (g.P.Pacer.period_shown c.args.pacer.now) (g.P.Pacer.tally c.args.pacer.now) (g.P.Pacer.answers c.args.pacer.now) in
+    refused_before t t (task_of words files) refusals.NotBuilt w first first tt (of_words words files (ToDemo c.in-Ok-Demo.field-0-0) (c.in-Ok-Demo.ensures ∙ ap (λ (a : Asked). Ok (wanted_of a)) c.in-Ok-Demo.field-0-is)) input moments refl
+
+pub returns-in-Err-clause-early : goal.returns-in-Err-clause-early
+returns-in-Err-clause-early g c files files_are =
+    let words = texts c.args.words.now in
+    subst (λ (refusal : Refusal). IsDecided (task_of words files) (Err refusal)) (sym c.refusal_of_words.ensures) (words_decide words files c.in-Err.fault c.in-Err.ensures)
+
+pub returns-in-Err-clause-told : goal.returns-in-Err-clause-told
+returns-in-Err-clause-told g c files w files_are input moments =
+    let t = g.H.Host.told c.args.host.now in
+    let words = texts c.args.words.now in
+    let first = shows (g.P.Pacer.period_shown c.args.pacer.now) (g.P.Pacer.tally c.args.pacer.now) (g.P.Pacer.answers c.args.pacer.now) in
+    subst (λ (refusal : Refusal). Refuses t (task_of words files) w first refusal t first) (sym c.refusal_of_words.ensures) (words_refuse t words files w first c.in-Err.fault c.in-Err.ensures input moments)
