@@ -17,7 +17,7 @@
 #                nor less than the bare and the serial time together over p, which is what master and slices have to do
 #     of limit   speed-up / limit
 #     busy       how many processors the run by windows kept busy: its processor time / its wall time
-#     MB         the most memory of the run by windows
+#     MB         the most memory of the run by windows, in 1,000,000 bytes
 #
 # With `options` one guest under one tool is run with --limit 1 to 32 and with --msec 5 to 500, all else by default, and with `memory` a
 # guest that writes 16,000 pages over and over, serially and with --limit 8 and 32. Of these the line has the number of slices, too. The
@@ -75,7 +75,7 @@ measure() {
         tail -n 1 "$folder/spent" >>"$folder/turns"
     done
     read -r wall busy size <<<"$(sort -n "$folder/turns" | awk '
-        NR == 1 { passed = $1 > 0 ? $1 : 0.01; printf "%.2f %.2f %.0f\n", passed, ($2 + $3) / passed, $4 / 1000 }')"
+        NR == 1 { passed = $1 > 0 ? $1 : 0.01; printf "%.2f %.2f %.0f\n", passed, ($2 + $3) / passed, $4 * 1.024 / 1000 }')"
 }
 
 # Runs a guest with a tool by these words, and leaves the report under the name given.
