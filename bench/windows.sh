@@ -13,8 +13,8 @@
 #     windows    seconds of `superpin run --tool TOOL`, with all defaults
 #     r          serial / bare
 #     speed-up   serial / windows
-#     limit      min(r, p * r / (1 + r)) with p processors, since no run by windows takes less than the bare time, which its master needs,
-#                nor less than the bare and the serial time together over p, which is what master and slices have to do
+#     limit      min(r, p * r / (1 + r)) with p processors: no run by windows takes less than the bare time, which its master needs, nor,
+#                where its slices go as fast as the serial run, less than the bare and the serial time together over p
 #     of limit   speed-up / limit
 #     busy       how many processors the run by windows kept busy: its processor time / its wall time
 #     MB         the most memory of the run by windows, in 1,000,000 bytes
