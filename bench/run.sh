@@ -13,8 +13,9 @@
 #     fast       the fast one of fast.rs, whose code is decoded once
 #
 # and then superpin / plain, run / fast and step / fast. Then each tool has a line for each guest: the steps a second of `superpin run
-# --by serial --tool NAME`, and the same / run. The programs in out/ are run as they stand: `rt ci guest_bench
-# superpin` makes them. Needs rustc, awk and bash, whose `times` counts thousandths of a second.
+# --by serial --tool NAME`, and the same / run. Runs by windows, which take longer programs, are measured by windows.sh. The
+# programs in out/ are run as they stand: `rt ci guest_bench superpin` makes them. Needs rustc, awk and bash, whose `times`
+# counts thousandths of a second.
 set -eu
 export LC_ALL=C
 
