@@ -140,7 +140,7 @@ fn are_lines(lines: &[SliceLine], row: &Row) -> bool {
         return false;
     }
     for (k, (line, wanted)) in lines.iter().zip(row.lines).enumerate() {
-        let is_last = k == lines.len() - 1;
+        let is_last = k.wrapping_add(1) == lines.len();
         let hits = if is_last { [0, 0, 0, 0] } else { row.hits };
         if !is_line(line, wanted.0, wanted.1, hits) {
             return false;

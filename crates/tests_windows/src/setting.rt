@@ -22,7 +22,7 @@ pub struct Bounds {
     pub frames: u32,
 }
 
-/// Bounds by which only the answers of the pacer make cuts due, for it is asked after each step.
+/// The pacer is asked after each step, and the other rules are as far off as they can be.
 pub const BOUNDS: Bounds = Bounds {
     budget: 1_000_000,
     limit: 8,
