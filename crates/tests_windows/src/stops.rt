@@ -1,0 +1,191 @@
+// What stops a run, with several jobs outstanding: a cut is at each step.
+use crate::programs::{COUNT_TO_SIX, Program, file_of, talk};
+use crate::setting::{BOUNDS, Bounds, NOTHING, Outside, host_of, pacer_of, run};
+use sp_host::{EveryPacer, MemoryHost, Pacer, Port};
+use std::alloc::Global;
+use std::test::Fail;
+use std::thread::Threads;
+use syscall_layer::RunFault;
+use tool_counts::InsCount;
+
+// What the talking program meets, and what stands on its standard output when it is stopped so.
+#[derive(Clone, Copy)]
+struct Row {
+    outside: Outside,
+    budget: u64,
+    fault: Option<RunFault>,
+    out: &'static [u8],
+}
+
+const READ_FAILS: Row = Row {
+    outside: Outside {
+        failing_input: &[1],
+        ..NOTHING
+    },
+    budget: 1_000_000,
+    fault: Some(RunFault::InputFault),
+    out: b"ELFELF",
+};
+
+const WRITE_FAILS: Row = Row {
+    outside: NOTHING,
+    fault: Some(RunFault::OutputFault { port: Port::Out }),
+    ..READ_FAILS
+};
+
+const ROWS: [Row; 11] = [
+    READ_FAILS,
+    // there is no second read
+    Row {
+        outside: Outside {
+            failing_input: &[2],
+            ..NOTHING
+        },
+        fault: None,
+        out: b"ELFELFELF",
+        ..READ_FAILS
+    },
+    Row {
+        outside: Outside {
+            failing_out: &[1],
+            ..NOTHING
+        },
+        out: b"",
+        ..WRITE_FAILS
+    },
+    Row {
+        outside: Outside {
+            failing_out: &[3],
+            ..NOTHING
+        },
+        ..WRITE_FAILS
+    },
+    Row {
+        outside: Outside {
+            failing_out: &[4],
+            ..NOTHING
+        },
+        fault: None,
+        out: b"ELFELFELF",
+        ..WRITE_FAILS
+    },
+    // by single bytes
+    Row {
+        outside: Outside {
+            failing_out: &[5],
+            single: true,
+            ..NOTHING
+        },
+        out: b"ELFE",
+        ..WRITE_FAILS
+    },
+    Row {
+        outside: Outside {
+            failing_out: &[7],
+            single: true,
+            ..NOTHING
+        },
+        ..WRITE_FAILS
+    },
+    Row {
+        outside: Outside {
+            failing_out: &[9],
+            single: true,
+            ..NOTHING
+        },
+        out: b"ELFELFEL",
+        ..WRITE_FAILS
+    },
+    // 47 steps end the run
+    Row {
+        outside: NOTHING,
+        budget: 47,
+        fault: None,
+        out: b"ELFELFELF",
+    },
+    Row {
+        outside: NOTHING,
+        budget: 46,
+        fault: Some(RunFault::BudgetSpent { n: 46 }),
+        out: b"ELFELFELF",
+    },
+    Row {
+        outside: NOTHING,
+        budget: 43,
+        fault: Some(RunFault::BudgetSpent { n: 43 }),
+        out: b"ELFELF",
+    },
+];
+
+// The fault of the run of a file, or None where it ended.
+fn fault_of<P: Pacer + Send, R: Threads + Sync>(
+    rt: &R,
+    alloc: Global,
+    file: &[u8],
+    bounds: &Bounds,
+    host: &mut MemoryHost,
+    pacer: &mut P,
+) -> Result<Option<RunFault>, Fail> {
+    let run = run(rt, alloc, &InsCount, file, bounds, host, pacer)?;
+    Ok(run.err())
+}
+
+#[test]
+fn faults_and_what_was_written(rt: HostRuntime) -> Result<(), Fail> {
+    let alloc = rt.alloc();
+    let file = talk(alloc)?;
+    for (k, row) in ROWS.iter().enumerate() {
+        let bounds = Bounds {
+            budget: row.budget,
+            ..BOUNDS
+        };
+        let mut host = host_of(alloc, &row.outside)?;
+        let mut pacer = EveryPacer::new(1);
+        let fault = fault_of(&rt, alloc, &file, &bounds, &mut host, &mut pacer)?;
+        assert!(rt; fault == row.fault, "row {k}");
+        assert!(rt; host.written(Port::Out) == row.out, "row {k}");
+    }
+    Ok(())
+}
+
+// The budget is spent in the second slice.
+#[test]
+fn budget_spent_behind_a_cut(rt: HostRuntime) -> Result<(), Fail> {
+    let alloc = rt.alloc();
+    let file = file_of(alloc, &COUNT_TO_SIX)?;
+    let bounds = Bounds {
+        budget: 30,
+        poll: 23,
+        ..BOUNDS
+    };
+    let mut host = host_of(alloc, &NOTHING)?;
+    let mut pacer = pacer_of(alloc, &[true])?;
+    let fault = fault_of(&rt, alloc, &file, &bounds, &mut host, &mut pacer)?;
+    assert!(rt; fault == Some(RunFault::BudgetSpent { n: 30 }));
+    Ok(())
+}
+
+// `hello`, and then a call with the number 1, to which the run comes behind a cut.
+const HELLO_AND_MORE: Program = Program {
+    data: false,
+    code: &[
+        0x04000893, 0x00100513, 0x000105b7, 0x07858593, 0x00600613, 0x00000073, 0x00100893,
+        0x00000513, 0x00000073, 0x6c6c6568, 0x00000a6f,
+    ],
+};
+
+#[test]
+fn a_call_without_a_row(rt: HostRuntime) -> Result<(), Fail> {
+    let alloc = rt.alloc();
+    let file = file_of(alloc, &HELLO_AND_MORE)?;
+    let mut host = host_of(alloc, &NOTHING)?;
+    let mut pacer = EveryPacer::new(1);
+    let fault = fault_of(&rt, alloc, &file, &BOUNDS, &mut host, &mut pacer)?;
+    let wanted = RunFault::Unsupported {
+        number: 1,
+        pc: 0x10074,
+    };
+    assert!(rt; fault == Some(wanted));
+    assert!(rt; host.written(Port::Out) == b"hello\n".as_slice());
+    Ok(())
+}
