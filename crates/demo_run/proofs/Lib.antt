@@ -1,2 +1,4 @@
 pub mod Answered
 pub mod Steady
+pub mod Runs
+pub mod Hits

@@ -140,7 +140,9 @@ fn by_windows<T: Tool, R: Threads + Sync>(
     };
     let mut host = outside(alloc);
     let mut pacer = EveryPacer::new(GRANTED);
-    match run_windows(rt, alloc, plan, views, guest, &limits, tool, &mut host, &mut pacer) {
+    match run_windows(
+        rt, alloc, plan, views, guest, &limits, tool, &mut host, &mut pacer,
+    ) {
         Ok(finished) => match text_of(alloc, tool, views, &finished.shared) {
             Ok(text) => Ok(Cut {
                 seen: Seen {

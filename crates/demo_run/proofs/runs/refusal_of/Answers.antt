@@ -1,0 +1,1 @@
+use Rattle.demo_run.proofs.runs.refusal_of.Goals as goal
