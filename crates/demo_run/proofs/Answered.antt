@@ -17,16 +17,16 @@ none_yet limits a s early = no_multiple (s % limits.poll) (omega (arith, div-add
     no_multiple : (r : ℕ) → s ≡ r → (nat_lt 0 s && (r == 0 && a (s / limits.poll))) ≡ false
     no_multiple r is = grind (arith, nat_tests)
 
+one_answer : (limits : CutLimits) (a d : ℕ → Bool) (s : ℕ) → a (s / limits.poll) ≡ d (s / limits.poll) → is_paced limits a s ≡ is_paced limits d s
+unfolding is_paced
+one_answer limits a d s h = ap (λ (x : Bool). nat_lt 0 s && (s % limits.poll == 0 && x)) h
+
 same_paced : (limits : CutLimits) (a d : ℕ → Bool) (s n : ℕ) → s / limits.poll ≤ n → ((k : ℕ) → 0 < k → k ≤ n → a k ≡ d k) → is_paced limits a s ≡ is_paced limits d s
 same_paced limits a d s n few agree = by (s / limits.poll) refl
   where
     by : (q : ℕ) → s / limits.poll ≡ q → is_paced limits a s ≡ is_paced limits d s
     by zero is = none_yet limits a s is ∙ sym (none_yet limits d s is)
-    by (suc q) is = asked (agree (s / limits.poll) (omega (arith, is)) few)
-      where
-        asked : a (s / limits.poll) ≡ d (s / limits.poll) → is_paced limits a s ≡ is_paced limits d s
-        unfolding is_paced
-        asked h = ap (λ (x : Bool). nat_lt 0 s && (s % limits.poll == 0 && x)) h
+    by (suc q) is = one_answer limits a d s (agree (s / limits.poll) (omega (arith, is)) few)
 
 -- a later position has no smaller quotient
 quotient_rises : (s e w : ℕ) → 0 < w → s ≤ e → s / w ≤ e / w
