@@ -1,10 +1,9 @@
 -- The cuts of a run rest on the answers that were asked for.
-use Rattle.std.proofs.Common.{◌≡◌, ◌⊎◌, inl, inr, ℕ, zero, suc, ◌+◌, ◌-◌, ◌*◌, ◌/◌, ◌%◌, ◌<◌, ◌≤◌, ◌||◌, Bool, false, List, [], ◌∷◌, refl, sym, ap, ◌∙◌, arith}
+use Rattle.std.proofs.Common.{◌≡◌, ℕ, zero, suc, ◌+◌, ◌-◌, ◌*◌, ◌/◌, ◌%◌, ◌<◌, ◌≤◌, ◌||◌, Bool, false, List, [], ◌∷◌, refl, sym, ap, ◌∙◌, arith}
 use Rattle.std.specs.Prelude.{◌==◌, ◌&&◌, nat_lt}
-use Rattle.std.proofs.lemmas.Bool.{cases_lt}
 use Rattle.std.proofs.lemmas.Bool.Decides.{nat_tests}
-use Rattle.std.proofs.Math.Nat.{div-lt_iff_lt-mul}
-use Rattle.std.proofs.lemmas.Nat.{div-add-mod', lt-div-mul-add}
+use Rattle.std.proofs.Math.Nat.{div-mul-le_self}
+use Rattle.std.proofs.lemmas.Nat.{div-add-mod', le-div}
 use Rattle.guest_model.specs.Serial.{Position, position_at}
 use Rattle.boundary_verify.specs.Cuts.{AreCutsAfter, CutLimits, HasNoCut, IsNextCut, is_cut, is_full, is_paced}
 use Rattle.boundary_verify.proofs.Cuts.{cuts_rise, within_last}
@@ -30,11 +29,7 @@ same_paced limits a d s n few agree = by (s / limits.poll) refl
 
 -- a later position has no smaller quotient
 quotient_rises : (s e w : ℕ) → 0 < w → s ≤ e → s / w ≤ e / w
-quotient_rises s e w some le = go (cases_lt (e / w) (s / w))
-  where
-    go : (e / w < s / w) ⊎ (s / w ≤ e / w) → s / w ≤ e / w
-    go (inr few) = few
-    go (inl more) = absurd (omega (arith, (div-lt_iff_lt-mul some).1 more, le))
+quotient_rises s e w some le = le-div (s / w) e w some (omega (arith, div-mul-le_self s w, le))
 
 module _ (limits : CutLimits) (a d : ℕ → Bool) (p : Position) (t : ℕ) (some : 0 < limits.poll) (agree : (k : ℕ) → 0 < k → k ≤ t / limits.poll → a k ≡ d k) where
   same_cut : (b s : ℕ) → s ≤ t → is_cut limits a p b s ≡ is_cut limits d p b s
