@@ -1,4 +1,4 @@
 pub mod Answered
 pub mod Steady
-pub mod Runs
-pub mod Hits
+pub mod Due
+pub mod Sums

@@ -77,12 +77,13 @@ abbrev pub sum_of_hits : (HitCounts → ℕ) → List Line → ℕ
 sum_of_hits count lines = sum_by (λ line. count line.hits) lines
 
 -- `matches Q R S W`
+abbrev pub sums_line : ℕ → ℕ → ℕ → ℕ → List ℕ
+sums_line quick registers stack whole =
+    codes "matches " ++ (decimal quick ++ (codes " " ++ (decimal registers ++ (codes " " ++ (decimal stack ++ (codes " " ++ (decimal whole ++ codes "\n")))))))
+
 abbrev pub matches_line : List Line → List ℕ
 matches_line lines =
-    codes "matches " ++ (decimal (sum_of_hits (λ h. h.quick) lines)
-    ++ (codes " " ++ (decimal (sum_of_hits (λ h. h.registers) lines)
-    ++ (codes " " ++ (decimal (sum_of_hits (λ h. h.stack) lines)
-    ++ (codes " " ++ (decimal (sum_of_hits (λ h. h.whole) lines) ++ codes "\n")))))))
+    sums_line (sum_of_hits (λ h. h.quick) lines) (sum_of_hits (λ h. h.registers) lines) (sum_of_hits (λ h. h.stack) lines) (sum_of_hits (λ h. h.whole) lines)
 
 -- all lines: the number, the size of the file, the texts of the tools, how the run ended, where it was cut, its slices
 abbrev pub all_lines : ℕ → ℕ → List ℕ → List ℕ → List ℕ → End → List ℕ → List Line → List ℕ

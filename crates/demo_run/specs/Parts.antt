@@ -10,6 +10,7 @@ use Rattle.elf_load.specs.Elf.{image_of, refusal_of}
 use Rattle.elf_load.specs.Image.{ImageFields}
 use Rattle.guest_model.specs.Runs.{Ended}
 use Rattle.guest_model.specs.Serial.{EndsAt, Position, run_of}
+use Rattle.master_run.specs.declared.limits.Limits.{Limits}
 use Rattle.ordered_merge.specs.declared.merger.SliceLine.{SliceLine}
 use Rattle.rv_machine.specs.declared.step.End.{End}
 use Rattle.sp_report.specs.Lines.{end_by}
@@ -38,6 +39,14 @@ refusal_by (faults.BudgetSpent n) = refusals.BudgetSpent n
 refusal_by faults.InputFault = refusals.InputFault
 refusal_by (faults.OutputFault port) = refusals.OutputFault port
 refusal_by faults.NoMemory = refusals.NoMemory
+
+-- what bounds a run where nothing else is asked for
+pub record AreUsual (limits : Limits) : Type 0 where
+  pub budget : limits.budget ≡ 1000000000
+  pub limit : limits.limit ≡ 8
+  pub poll : limits.poll ≡ 64
+  pub records : limits.records ≡ 1024
+  pub frames : limits.frames ≡ 4096
 
 -- the run of an image ended so
 abbrev pub HasEnded : ImageFields → End → Type 0

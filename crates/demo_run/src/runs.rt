@@ -1,7 +1,7 @@
 // The runs of the program with a tool, and what each gives.
 ghost use Rattle.std.specs.Prelude.{◌≡◌, ◌<◌, ◌^◌, ℕ, List, IfOk};
 ghost use Rattle.demo_run.specs.Demo.{tool_text};
-ghost use Rattle.demo_run.specs.Parts.{CutGives, HasNoSource, SeenGives, refusal_by};
+ghost use Rattle.demo_run.specs.Parts.{AreUsual, CutGives, HasNoSource, SeenGives, refusal_by};
 ghost use Rattle.ins_views.specs.Views.{views_of};
 ghost use Rattle.insert_points.specs.Plan.{called_at};
 ghost use Rattle.insert_points.specs.declared.call.Event.{Event};
@@ -44,13 +44,7 @@ pub(crate) struct Cut {
 
 // What bounds a run where nothing else is asked for.
 fn usual() -> Limits
-    ensures { result ≡ record {
-      budget = 1000000000;
-      limit = 8;
-      poll = 64;
-      records = 1024;
-      frames = 4096;
-    } }
+    ensures { AreUsual result }
 {
     Limits {
         budget: 1_000_000_000,

@@ -1,9 +1,9 @@
 // The lines that are printed.
 ghost use Rattle.std.specs.Prelude.{◌≡◌, ◌++◌, OnOk, map};
-ghost use Rattle.demo_run.specs.Demo.{cuts_line, file_line, matches_line};
+ghost use Rattle.demo_run.specs.Demo.{cuts_line, file_line, matches_line, sums_line};
 ghost use Rattle.window_run.specs.Windows.{line_by};
 
-use crate::hits::sums_of;
+use crate::hits::{Sums, sums_of};
 use ordered_merge::SliceLine;
 use std::alloc::AllocError;
 use tool_parts::push_number;
@@ -30,12 +30,11 @@ pub(crate) fn push_cuts(text: &mut Vec<u8>, cuts: usize) -> Result<(), AllocErro
     Ok(())
 }
 
-/// Adds `matches Q R S W`.
-pub(crate) fn push_matches(text: &mut Vec<u8>, lines: &[SliceLine]) -> Result<(), AllocError>
-    ensures { OnOk result
-        (text.new.items ≡ text.old.items ++ matches_line (map line_by lines.now)) }
+// Adds `matches Q R S W` of these sums.
+fn push_sums(text: &mut Vec<u8>, sums: &Sums) -> Result<(), AllocError>
+    ensures { OnOk result (text.new.items ≡ text.old.items ++
+        sums_line sums.now.quick sums.now.registers sums.now.stack sums.now.whole) }
 {
-    let sums = sums_of(lines);
     text.extend_from_slice(b"matches ")?;
     push_number(text, sums.quick)?;
     text.extend_from_slice(b" ")?;
@@ -45,5 +44,15 @@ pub(crate) fn push_matches(text: &mut Vec<u8>, lines: &[SliceLine]) -> Result<()
     text.extend_from_slice(b" ")?;
     push_number(text, sums.whole)?;
     text.extend_from_slice(b"\n")?;
+    Ok(())
+}
+
+/// Adds `matches Q R S W` of a run with these lines.
+pub(crate) fn push_matches(text: &mut Vec<u8>, lines: &[SliceLine]) -> Result<(), AllocError>
+    ensures { OnOk result
+        (text.new.items ≡ text.old.items ++ matches_line (map line_by lines.now)) }
+{
+    let sums = sums_of(lines);
+    push_sums(text, &sums)?;
     Ok(())
 }

@@ -1,7 +1,9 @@
 -- From what the runs give to what is due.
-use Rattle.std.proofs.Common.{◌≡◌, ℕ, ◌/◌, ◌<◌, ◌≤◌, Bool, false, List, [], map, refl, sym, ap, subst, ◌∙◌, arith, lit<}
-use Rattle.std.specs.Prelude.{Option, Some, None, ◌==◌, if◌then◌else◌}
+use Rattle.std.proofs.Common.{◌≡◌, ℕ, ◌/◌, ◌<◌, ◌≤◌, Bool, false, List, [], length, map, refl, sym, ap, subst, ◌∙◌, arith, lit<}
+use Rattle.std.specs.Prelude.{Option, Some, None, Ok, Err, Vec, ◌==◌, if◌then◌else◌}
+use Rattle.std.specs.declared.alloc.Global.{Global}
 use Rattle.sp_host.specs.Told.{Told}
+use Rattle.elf_load.specs.Elf.{image_of, refusal_of}
 use Rattle.elf_load.specs.Image.{ImageFields}
 use Rattle.guest_model.specs.Call.{World}
 use Rattle.guest_model.specs.Machine.{Machine}
@@ -12,6 +14,8 @@ use Rattle.master_run.specs.Answers.{PacerState}
 use Rattle.master_run.specs.Master.{limits_of}
 use Rattle.master_run.specs.declared.limits.Limits.{Limits}
 use Rattle.ordered_merge.specs.declared.finished.Finished.{Finished}
+use Rattle.prog_gen.specs.Demo.{demo_headers, demo_instrs}
+use Rattle.prog_gen.specs.File.{Adds}
 use Rattle.rv_machine.specs.Load.{machine_of}
 use Rattle.rv_machine.specs.Step.{kind_number}
 use Rattle.rv_machine.specs.declared.step.End.{End as GuestEnd}
@@ -21,11 +25,14 @@ use Rattle.rv_machine.specs.declared.step.FaultKind.TheVariants.{Illegal, Break,
 use Rattle.serial_run.specs.Run.{RunFails}
 use Rattle.serial_run.specs.Start.{Run, start_of}
 use Rattle.sp_report.specs.Lines.{end_by}
+use Rattle.sp_report.specs.declared.answer.Refusal.{Refusal}
+use Rattle.sp_report.specs.declared.answer.Refusal.TheVariants as refusals
 use Rattle.syscall_layer.specs.declared.fault.RunFault.{RunFault}
 use Rattle.syscall_layer.specs.declared.fault.RunFault.TheVariants as faults
-use Rattle.window_run.specs.Windows.{WindowsEnd, WindowsFail}
-use Rattle.demo_run.specs.Demo.{RunRefused, demo_answers, demo_limits, demo_run, demo_strings, no_world}
-use Rattle.demo_run.specs.Parts.{HasEnded, HasNoSource, IsCutRun, refusal_by}
+use Rattle.window_run.specs.Windows.{WindowsEnd, WindowsFail, line_by}
+use Rattle.demo_run.specs.Demo.{DemoGives, IsDemoText, RunRefused, all_lines, bcount_line, cache_line, demo_answers, demo_limits, demo_run, demo_strings, icount_line, no_world}
+use Rattle.demo_run.specs.Parts.{AreUsual, HasEnded, HasNoSource, IsCutRun, ThreeGive, refusal_by}
+use Rattle.demo_run.specs.declared.demo.Three.{Three}
 use Rattle.demo_run.proofs.Answered.{same_cuts}
 
 abbrev run_with : Machine → ℕ → Run
@@ -50,12 +57,7 @@ windows_fail t new image faults.InputFault none gives = cc
 windows_fail t new image (faults.OutputFault port) none gives = cc
 windows_fail t new image faults.NoMemory none gives = tt
 
--- these limits are those of the demonstration
-pub record AreUsual (limits : Limits) : Type 0 where
-  pub poll : limits.poll ≡ 64
-  pub records : limits.records ≡ 1024
-  pub frames : limits.frames ≡ 4096
-
+-- the usual limits are those of the demonstration
 usual_limits : (limits : Limits) → AreUsual limits → limits_of limits ≡ demo_limits
 usual_limits limits h =
     ap (λ (x : ℕ). cut_limits x limits.records limits.frames) h.poll
@@ -104,3 +106,40 @@ end_back (ends.Signal kind pc) = ap (λ (k : FaultKind). ends.Signal k pc) (kind
 
 pub one_end : (image : ImageFields) (a b : GuestEnd) → HasEnded image a → HasEnded image b → a ≡ b
 one_end image a b h k = sym (end_back a) ∙ ap (λ (x : RunState Position End). told_back (end_of x)) (sym h.1 ∙ k.1) ∙ end_back b
+
+-- the refusal of the run of a file's image
+pub refused : (n : ℕ) (file : List ℕ) (image : ImageFields) (refusal : Refusal) → Adds (demo_instrs n) demo_headers file → refusal_of file ≡ None → image ≡ image_of file → RunRefused image refusal → DemoGives n (Err refusal)
+refused n file image (refusals.UnsupportedCall number pc) adds sound is h = (file, (adds, (sound, subst (λ (i : ImageFields). RunRefused i (refusals.UnsupportedCall number pc)) is h)))
+refused n file image (refusals.BudgetSpent k) adds sound is h = (file, (adds, (sound, subst (λ (i : ImageFields). RunRefused i (refusals.BudgetSpent k)) is h)))
+refused n file image refusals.NoMemory adds sound is h = tt
+refused n file image (refusals.Usage kind) adds sound is h = absurd h
+refused n file image refusals.FileFault adds sound is h = absurd h
+refused n file image refusals.FileTooLarge adds sound is h = absurd h
+refused n file image (refusals.Elf fault) adds sound is h = absurd h
+refused n file image (refusals.ArgsTooLong bytes) adds sound is h = absurd h
+refused n file image refusals.InputFault adds sound is h = absurd h
+refused n file image (refusals.OutputFault port) adds sound is h = absurd h
+refused n file image refusals.ReportFault adds sound is h = absurd h
+refused n file image refusals.NotBuilt adds sound is h = absurd h
+
+-- the text of the runs of a file's image
+pub printed : (n bytes : ℕ) (file : List ℕ) (image : ImageFields) (three : Three) (text : Vec ℕ Global) → Adds (demo_instrs n) demo_headers file → refusal_of file ≡ None → image ≡ image_of file → ThreeGive image (Ok three) → bytes ≡ length file
+    → text.items ≡ all_lines n bytes three.icount.seen.text.items three.bcount.seen.text.items three.cache.seen.text.items (end_by three.cache.seen.end) three.cache.cuts.items (map line_by three.cache.lines.items) → DemoGives n (Ok text)
+printed n bytes file image three text adds sound is gives size lines = (file, (adds, (sound, subst (λ (i : ImageFields). IsDemoText n (length file) i text.items) is whole)))
+  where
+    whole : IsDemoText n (length file) image text.items
+    whole = record {
+      end = three.cache.seen.end;
+      steps = gives.3.steps;
+      within = gives.3.within;
+      ended = gives.3.ended;
+      cuts = three.cache.cuts.items;
+      cuts_are = gives.3.cuts_are;
+      lines = map line_by three.cache.lines.items;
+      lines_are = gives.3.lines_are;
+      text_is = lines
+          ∙ ap (λ (k : ℕ). all_lines n k three.icount.seen.text.items three.bcount.seen.text.items three.cache.seen.text.items (end_by three.cache.seen.end) three.cache.cuts.items (map line_by three.cache.lines.items)) size
+          ∙ ap (λ (x : List ℕ). all_lines n (length file) x three.bcount.seen.text.items three.cache.seen.text.items (end_by three.cache.seen.end) three.cache.cuts.items (map line_by three.cache.lines.items)) gives.0
+          ∙ ap (λ (x : List ℕ). all_lines n (length file) (icount_line image) x three.cache.seen.text.items (end_by three.cache.seen.end) three.cache.cuts.items (map line_by three.cache.lines.items)) gives.1
+          ∙ ap (λ (x : List ℕ). all_lines n (length file) (icount_line image) (bcount_line image) x (end_by three.cache.seen.end) three.cache.cuts.items (map line_by three.cache.lines.items)) gives.2;
+    }

@@ -1,1 +1,0 @@
-use Rattle.demo_run.proofs.runs.refusal_of.Goals as goal
