@@ -76,10 +76,13 @@ cuts_line cuts = codes "cuts " ++ (decimal cuts ++ codes "\n")
 abbrev pub sum_of_hits : (HitCounts → ℕ) → List Line → ℕ
 sum_of_hits count lines = sum_by (λ line. count line.hits) lines
 
+-- ` N`
+abbrev pub spaced : ℕ → List ℕ
+spaced n = codes " " ++ decimal n
+
 -- `matches Q R S W`
 abbrev pub sums_line : ℕ → ℕ → ℕ → ℕ → List ℕ
-sums_line quick registers stack whole =
-    codes "matches " ++ (decimal quick ++ (codes " " ++ (decimal registers ++ (codes " " ++ (decimal stack ++ (codes " " ++ (decimal whole ++ codes "\n")))))))
+sums_line quick registers stack whole = codes "matches" ++ (spaced quick ++ (spaced registers ++ (spaced stack ++ (spaced whole ++ codes "\n"))))
 
 abbrev pub matches_line : List Line → List ℕ
 matches_line lines =

@@ -1,6 +1,6 @@
 // The lines that are printed.
 ghost use Rattle.std.specs.Prelude.{◌≡◌, ◌++◌, OnOk, map};
-ghost use Rattle.demo_run.specs.Demo.{cuts_line, file_line, matches_line, sums_line};
+ghost use Rattle.demo_run.specs.Demo.{cuts_line, file_line, matches_line, spaced, sums_line};
 ghost use Rattle.window_run.specs.Windows.{line_by};
 
 use crate::hits::{Sums, sums_of};
@@ -30,19 +30,25 @@ pub(crate) fn push_cuts(text: &mut Vec<u8>, cuts: usize) -> Result<(), AllocErro
     Ok(())
 }
 
+// Adds ` N`.
+fn push_spaced(text: &mut Vec<u8>, n: u128) -> Result<(), AllocError>
+    ensures { OnOk result (text.new.items ≡ text.old.items ++ spaced n) }
+{
+    text.extend_from_slice(b" ")?;
+    push_number(text, n)?;
+    Ok(())
+}
+
 // Adds `matches Q R S W` of these sums.
 fn push_sums(text: &mut Vec<u8>, sums: &Sums) -> Result<(), AllocError>
     ensures { OnOk result (text.new.items ≡ text.old.items ++
         sums_line sums.now.quick sums.now.registers sums.now.stack sums.now.whole) }
 {
-    text.extend_from_slice(b"matches ")?;
-    push_number(text, sums.quick)?;
-    text.extend_from_slice(b" ")?;
-    push_number(text, sums.registers)?;
-    text.extend_from_slice(b" ")?;
-    push_number(text, sums.stack)?;
-    text.extend_from_slice(b" ")?;
-    push_number(text, sums.whole)?;
+    text.extend_from_slice(b"matches")?;
+    push_spaced(text, sums.quick)?;
+    push_spaced(text, sums.registers)?;
+    push_spaced(text, sums.stack)?;
+    push_spaced(text, sums.whole)?;
     text.extend_from_slice(b"\n")?;
     Ok(())
 }
