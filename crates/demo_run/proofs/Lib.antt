@@ -1,0 +1,4 @@
+pub mod Answered
+pub mod Steady
+pub mod Due
+pub mod Sums
