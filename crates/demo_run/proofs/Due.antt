@@ -120,7 +120,6 @@ refused n file image (refusals.ArgsTooLong bytes) adds sound is h = absurd h
 refused n file image refusals.InputFault adds sound is h = absurd h
 refused n file image (refusals.OutputFault port) adds sound is h = absurd h
 refused n file image refusals.ReportFault adds sound is h = absurd h
-refused n file image refusals.NotBuilt adds sound is h = absurd h
 
 -- the text of the runs of a file's image
 pub printed : (n bytes : ℕ) (file : List ℕ) (image : ImageFields) (three : Three) (text : Vec ℕ Global) → Adds (demo_instrs n) demo_headers file → refusal_of file ≡ None → image ≡ image_of file → ThreeGive image (Ok three) → bytes ≡ length file

@@ -87,4 +87,3 @@ refusal_line refusals.InputFault = codes "superpin: 8 input fault\n"
 refusal_line (refusals.OutputFault port) = codes "superpin: 9 output fault " ++ (port_name port ++ codes "\n")
 refusal_line refusals.ReportFault = []
 refusal_line refusals.NoMemory = codes "superpin: 11 no memory\n"
-refusal_line refusals.NotBuilt = codes "superpin: 90 not built\n"

@@ -63,8 +63,6 @@ pub enum Refusal {
     ReportFault,
     /// There was no memory.
     NoMemory,
-    /// The words are not built yet.
-    NotBuilt,
 }
 
 /// The positions at which a run was cut into slices, in order.

@@ -211,6 +211,5 @@ pub fn refusal_line(refusal: &Refusal) -> ArrayVec<u8, 96>
         ),
         Refusal::ReportFault => ArrayVec::new(),
         Refusal::NoMemory => plain(b"superpin: 11 no memory\n"),
-        Refusal::NotBuilt => plain(b"superpin: 90 not built\n"),
     }
 }

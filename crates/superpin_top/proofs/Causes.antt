@@ -32,7 +32,6 @@ calm refusals.InputFault f e = cc
 calm (refusals.OutputFault port) f e = cc
 calm refusals.ReportFault f e = cc
 calm refusals.NoMemory f e = (refl, tt)
-calm refusals.NotBuilt f e = (refl, tt)
 
 -- a fault of the run
 pub run_caused : (fault : RunFault) (before now : Faults) → Caused (run_source fault) before now → IsRunGuests fault → CausedBy (refusal_of_run fault) before now
@@ -196,7 +195,6 @@ with_cause s (refusals.ArgsTooLong bytes) guests e = cc
 with_cause s (refusals.UnsupportedCall number pc) guests e = cc
 with_cause s (refusals.BudgetSpent n) guests e = cc
 with_cause s refusals.NoMemory guests e = cc
-with_cause s refusals.NotBuilt guests e = cc
 
 -- so the refusal of a source comes exactly where its count rose
 pub refused_where : (s : Source) (refusal : Refusal) (mid new : Told) (before middle now : Faults) → CausedBy refusal before middle → WritesLine refusal mid new middle now → s ≢ To Report → count_of s before < 2 ^ 64 - 1

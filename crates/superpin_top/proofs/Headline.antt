@@ -86,7 +86,6 @@ headline_of t task w first before after (Refused (refusals.Elf fault)) new now o
 headline_of t task w first before after (Refused (refusals.ArgsTooLong bytes)) new now o can none = due_is t task w first before after (refusals.ArgsTooLong bytes) new now o o.refuses o.caused.0 can none
 headline_of t task w first before after (Refused (refusals.UnsupportedCall number pc)) new now o can none = due_is t task w first before after (refusals.UnsupportedCall number pc) new now o o.refuses o.caused.0 can none
 headline_of t task w first before after (Refused (refusals.BudgetSpent n)) new now o can none = due_is t task w first before after (refusals.BudgetSpent n) new now o o.refuses o.caused.0 can none
-headline_of t task w first before after (Refused refusals.NotBuilt) new now o can none = due_is t task w first before after refusals.NotBuilt new now o o.refuses o.caused.0 can none
 headline_of t task w first before after (Refused refusals.FileFault) new now o can none =
     absurd (count_rose File refusals.FileFault o.mid new before o.middle after o.caused.0 o.writes (λ e. cc) can.file none)
 headline_of t task w first before after (Refused refusals.InputFault) new now o can none =
@@ -157,7 +156,6 @@ causes_of t task w first before after (Refused (refusals.Elf fault)) new now o c
 causes_of t task w first before after (Refused (refusals.ArgsTooLong bytes)) new now o can none some = caused_due (due_task task w not_sliced) (refusals.ArgsTooLong bytes) before after o.refuses.answer_is (λ e. cc)
 causes_of t task w first before after (Refused (refusals.UnsupportedCall number pc)) new now o can none some = caused_due (due_task task w not_sliced) (refusals.UnsupportedCall number pc) before after o.refuses.answer_is (λ e. cc)
 causes_of t task w first before after (Refused (refusals.BudgetSpent n)) new now o can none some = caused_due (due_task task w not_sliced) (refusals.BudgetSpent n) before after o.refuses.answer_is (λ e. cc)
-causes_of t task w first before after (Refused refusals.NotBuilt) new now o can none some = caused_due (due_task task w not_sliced) refusals.NotBuilt before after o.refuses.answer_is (λ e. cc)
 causes_of t task w first before after (Refused refusals.FileFault) new now o can none some =
     absurd (run_rose File refusals.FileFault o.mid new before o.middle after o.caused.0 o.writes (λ e. cc) can.file none.file)
 causes_of t task w first before after (Refused refusals.InputFault) new now o can none some =
@@ -212,7 +210,6 @@ fronts_before t task w first (refusals.Elf fault) mid now refuses = all_sent t m
 fronts_before t task w first (refusals.ArgsTooLong bytes) mid now refuses = all_sent t mid (due_task task w not_sliced) [] refuses.told_is
 fronts_before t task w first (refusals.UnsupportedCall number pc) mid now refuses = all_sent t mid (due_task task w not_sliced) [] refuses.told_is
 fronts_before t task w first (refusals.BudgetSpent n) mid now refuses = all_sent t mid (due_task task w not_sliced) [] refuses.told_is
-fronts_before t task w first refusals.NotBuilt mid now refuses = all_sent t mid (due_task task w not_sliced) [] refuses.told_is
 fronts_before t task w first refusals.InputFault mid now refuses = of_task t mid task w not_sliced refuses.0 refuses.1 (input_fronts t mid (run_of_program refuses.0 w) not_sliced refuses.2)
 fronts_before t task w first (refusals.OutputFault port) mid now (inl ran) = of_task t mid task w not_sliced ran.0 ran.1 (output_fronts t mid (run_of_program ran.0 w) not_sliced port ran.2)
 fronts_before t task w first (refusals.OutputFault port) mid now (inr text) = subst (λ (k : Result Task Refusal). AddsFronts t (due_task k w not_sliced) mid) (sym text.1) (part_shown t mid (view_text text.0) w text.2.1)
@@ -236,10 +233,6 @@ fronts_of t task w first before after (Refused refusal) new now o =
       err = subst (λ (err : Option (List ℕ)). AddsFront t.err (due_task task w not_sliced).err err) (sym (ap (λ (q : Told). q.err) o.writes.told_is)) fronts.err;
     }
 
--- a command that was done sent all that is due
-pub done_fronts : (t : Told) (task : Result Task Refusal) (w : World) (first : PacerState) (done : Done) (new : Told) (now : PacerState) → IsDone t task w first done new now → AddsFronts t (due_task task w (done_slicing done)) new
-done_fronts t task w first done new now is = all_sent t new (due_task task w (done_slicing done)) _ is.told_is
-
 -- all that follows from the outcome
 pub record Follows (t : Told) (d : Due) (before now : Faults) (answer : Answer) (new : Told) : Type 0 where
   pub headline : CanRise before → now ≡ before → IsDelivered t d answer new
@@ -253,6 +246,14 @@ follows t task w first before after answer new now o = record {
   causes = causes_of t task w first before after answer new now o;
   fronts = fronts_of t task w first before after answer new now o;
 }
+
+-- from a command that was done
+pub done_outcome : (t new : Told) (task : Result Task Refusal) (w : World) (first now : PacerState) (before after : Faults) (done : Done) → IsDone t task w first done new now → after ≡ before → Outcome t task w first before (Ended done.status done.cuts done.lines) new after now
+done_outcome t new task w first now before after done is same = record { answer_is = is.answer_is; told_is = is.told_is; sliced = is.sliced; same = same }
+
+pub done_follows : (t new : Told) (task : Result Task Refusal) (w : World) (first now : PacerState) (before after : Faults) (done : Done) → IsDone t task w first done new now → after ≡ before
+    → Follows t (due_task task w (done_slicing done)) before after (Ended done.status done.cuts done.lines) new
+done_follows t new task w first now before after done is same = follows t task w first before after (Ended done.status done.cuts done.lines) new now (done_outcome t new task w first now before after done is same)
 
 -- from the outcome of a refusal
 pub refused_follows : (t : Told) (task : Result Task Refusal) (w : World) (first : PacerState) (refusal : Refusal) (before middle after : Faults) (mid new : Told) (now : PacerState) → Refuses t task w first refusal mid now → CausedBy refusal before middle
@@ -277,7 +278,6 @@ early_of task (refusals.Usage kind) decided some found r early = decided_one tas
 early_of task refusals.FileTooLarge decided some found r early = decided_one task refusals.FileTooLarge r decided
 early_of task (refusals.Elf fault) decided some found r early = decided_one task (refusals.Elf fault) r decided
 early_of task (refusals.ArgsTooLong bytes) decided some found r early = decided_one task (refusals.ArgsTooLong bytes) r decided
-early_of task refusals.NotBuilt decided some found r early = decided_one task refusals.NotBuilt r decided
 early_of task (refusals.UnsupportedCall number pc) decided some found r early = decided_none task _ r decided (late_differs (refusals.UnsupportedCall number pc) r refl early)
 early_of task (refusals.BudgetSpent n) decided some found r early = decided_none task _ r decided (late_differs (refusals.BudgetSpent n) r refl early)
 early_of task refusals.InputFault decided some found r early = decided_none task _ r decided (late_differs refusals.InputFault r refl early)

@@ -5,3 +5,4 @@ pub mod Fronts
 pub mod Headline
 pub mod Texts
 pub mod Engines
+pub mod Demos

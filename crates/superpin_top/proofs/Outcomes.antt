@@ -71,7 +71,6 @@ IsEarlyRefusal (refusals.Usage kind) = Unit {0}
 IsEarlyRefusal refusals.FileTooLarge = Unit {0}
 IsEarlyRefusal (refusals.Elf fault) = Unit {0}
 IsEarlyRefusal (refusals.ArgsTooLong bytes) = Unit {0}
-IsEarlyRefusal refusals.NotBuilt = Unit {0}
 IsEarlyRefusal refusal = ⊥
 
 refused_early : (t new : Told) (refusal : Refusal) (w : World) (first now : PacerState) → IsEarlyRefusal refusal → t.input ≡ Some w.input → t.moments ≡ Some w.moments → new ≡ t → Refuses t (Err refusal) w first refusal new now
@@ -79,7 +78,6 @@ refused_early t new (refusals.Usage kind) w first now is input moments same = ea
 refused_early t new refusals.FileTooLarge w first now is input moments same = early t new refusals.FileTooLarge w input moments same
 refused_early t new (refusals.Elf fault) w first now is input moments same = early t new (refusals.Elf fault) w input moments same
 refused_early t new (refusals.ArgsTooLong bytes) w first now is input moments same = early t new (refusals.ArgsTooLong bytes) w input moments same
-refused_early t new refusals.NotBuilt w first now is input moments same = early t new refusals.NotBuilt w input moments same
 refused_early t new refusals.FileFault w first now is input moments same = absurd is
 refused_early t new (refusals.UnsupportedCall number pc) w first now is input moments same = absurd is
 refused_early t new (refusals.BudgetSpent n) w first now is input moments same = absurd is

@@ -21,7 +21,7 @@ use Rattle.sp_words.specs.Asked.{Answers, RunWanted, Wanted, words_wanted}
 use Rattle.sp_words.specs.declared.asked.WordFault.{WordFault}
 use Rattle.sp_words.specs.declared.asked.WordFault.TheVariants as words
 use Rattle.superpin_top.specs.Causes.{refusal_of_read, refusal_of_words}
-use Rattle.superpin_top.specs.Due.{Task, Runs, Shows, program_of, run_task, strings_of, task_in, task_of, task_of_file, task_of_image, task_of_tested, task_of_wanted, view_task}
+use Rattle.superpin_top.specs.Due.{OfTask, Task, Runs, Shows, program_of, run_task, strings_of, task_in, task_of, task_of_file, task_of_image, task_of_tested, task_of_wanted, view_task}
 use Rattle.superpin_top.specs.Outcome.{IsAccepted, IsDecided, Refuses}
 use Rattle.superpin_top.specs.Top.{ImageGives, IsBefore, IsLate, IsOfWords, IsPastWords, ReadGives, answer_by}
 use Rattle.superpin_top.specs.declared.engine.Done.{Done}
@@ -86,7 +86,6 @@ unsound file task (refusals.BudgetSpent n) le gives = absurd gives
 unsound file task refusals.InputFault le gives = absurd gives
 unsound file task (refusals.OutputFault port) le gives = absurd gives
 unsound file task refusals.ReportFault le gives = absurd gives
-unsound file task refusals.NotBuilt le gives = absurd gives
 
 pub unread_task : (file : List ℕ) (task : Result Task Refusal) (refusal : Refusal) → ReadGives file (Err refusal) → IsBefore (task_of_file file task) refusal
 unread_task file task (refusals.Usage kind) gives = absurd gives
@@ -100,16 +99,25 @@ unread_task file task (refusals.BudgetSpent n) gives = absurd gives
 unread_task file task refusals.InputFault gives = absurd gives
 unread_task file task (refusals.OutputFault port) gives = absurd gives
 unread_task file task refusals.ReportFault gives = absurd gives
-unread_task file task refusals.NotBuilt gives = absurd gives
 
 -- what the words ask for
 pub of_words : (words : List (List ℕ)) (files : Files) (wanted : Wanted) → words_wanted words ≡ Ok wanted → task_of words files ≡ task_in files wanted
 unfolding task_of
 of_words words files wanted is = ap (λ (w : Result Wanted UsageKind). task_of_wanted w files) is
 
-pub of_no_words : (words : List (List ℕ)) (files : Files) (kind : UsageKind) → words_wanted words ≡ Err kind → task_of words files ≡ Err (refusals.Usage kind)
+of_no_words : (words : List (List ℕ)) (files : Files) (kind : UsageKind) → words_wanted words ≡ Err kind → task_of words files ≡ Some (Err (refusals.Usage kind))
 unfolding task_of
 of_no_words words files kind is = ap (λ (w : Result Wanted UsageKind). task_of_wanted w files) is
+
+-- what is so of every task
+of_any : (o : Option (Result Task Refusal)) (P : Result Task Refusal → Type 0) → ((task : Result Task Refusal) → P task) → OfTask o P
+of_any None P all = tt
+of_any (Some task) P all = all task
+
+-- and what follows of each
+pub of_each : (o : Option (Result Task Refusal)) (P Q : Result Task Refusal → Type 0) → ((task : Result Task Refusal) → P task → Q task) → OfTask o P → OfTask o Q
+of_each None P Q follows is = tt
+of_each (Some task) P Q follows is = follows task is
 
 -- words that were read were not refused
 pub read_words_pass : (wanted : Result Wanted UsageKind) (asked : Wanted) (r : Result Done Refusal) → wanted ≡ Ok asked → ((refusal : Refusal) → r ≡ Err refusal → IsPastWords refusal) → IsOfWords wanted (answer_by r)
@@ -133,13 +141,15 @@ refused_words wanted (words.Usage kind) due = record {
 refused_words wanted words.NoMemory due = record { only = λ kind e. cc; always = λ kind e. inr refl }
 
 pub words_refuse : (t : Told) (texts : List (List ℕ)) (files : Files) (w : World) (first : PacerState) (fault : WordFault) → Answers (words_wanted texts) (Err fault) → t.input ≡ Some w.input → t.moments ≡ Some w.moments
-    → Refuses t (task_of texts files) w first (refusal_of_words fault) t first
-words_refuse t texts files w first (words.Usage kind) due input moments = refused_before t t (task_of texts files) (refusals.Usage kind) w first first tt (of_no_words texts files kind due) input moments refl
-words_refuse t texts files w first words.NoMemory due input moments = inl refl
+    → OfTask (task_of texts files) (λ task. Refuses t task w first (refusal_of_words fault) t first)
+words_refuse t texts files w first (words.Usage kind) due input moments =
+    subst (λ (o : Option (Result Task Refusal)). OfTask o (λ task. Refuses t task w first (refusals.Usage kind) t first)) (sym (of_no_words texts files kind due))
+    (refused_before t t (Err (refusals.Usage kind)) (refusals.Usage kind) w first first tt refl input moments refl)
+words_refuse t texts files w first words.NoMemory due input moments = of_any (task_of texts files) (λ task. Refuses t task w first refusals.NoMemory t first) (λ task. inl refl)
 
-pub words_decide : (texts : List (List ℕ)) (files : Files) (fault : WordFault) → Answers (words_wanted texts) (Err fault) → IsDecided (task_of texts files) (Err (refusal_of_words fault))
-words_decide texts files (words.Usage kind) due = of_no_words texts files kind due
-words_decide texts files words.NoMemory due = tt
+pub words_decide : (texts : List (List ℕ)) (files : Files) (fault : WordFault) → Answers (words_wanted texts) (Err fault) → OfTask (task_of texts files) (λ task. IsDecided task (Err (refusal_of_words fault)))
+words_decide texts files (words.Usage kind) due = subst (λ (o : Option (Result Task Refusal)). OfTask o (λ task. IsDecided task (Err (refusals.Usage kind)))) (sym (of_no_words texts files kind due)) refl
+words_decide texts files words.NoMemory due = of_any (task_of texts files) (λ task. IsDecided task (Err refusals.NoMemory)) (λ task. tt)
 
 -- a refusal before a run, or before a text is written
 pub unready : (t new : Told) (task : Result Task Refusal) (w : World) (first now : PacerState) (refusal : Refusal) → IsBefore task refusal → t.input ≡ Some w.input → t.moments ≡ Some w.moments → new ≡ t
@@ -150,7 +160,6 @@ unready t new task w first now refusals.FileTooLarge gives input moments same = 
 unready t new task w first now (refusals.Elf fault) gives input moments same = refused_before t new task (refusals.Elf fault) w first now tt gives input moments same
 unready t new task w first now (refusals.ArgsTooLong bytes) gives input moments same = refused_before t new task (refusals.ArgsTooLong bytes) w first now tt gives input moments same
 unready t new task w first now refusals.NoMemory gives input moments same = inl same
-unready t new task w first now refusals.NotBuilt gives input moments same = absurd gives
 unready t new task w first now (refusals.UnsupportedCall number pc) gives input moments same = absurd gives
 unready t new task w first now (refusals.BudgetSpent n) gives input moments same = absurd gives
 unready t new task w first now refusals.InputFault gives input moments same = absurd gives
@@ -165,7 +174,6 @@ unready_decides task refusals.FileTooLarge gives = gives
 unready_decides task (refusals.Elf fault) gives = gives
 unready_decides task (refusals.ArgsTooLong bytes) gives = gives
 unready_decides task refusals.NoMemory gives = tt
-unready_decides task refusals.NotBuilt gives = absurd gives
 unready_decides task (refusals.UnsupportedCall number pc) gives = absurd gives
 unready_decides task (refusals.BudgetSpent n) gives = absurd gives
 unready_decides task refusals.InputFault gives = absurd gives
@@ -181,7 +189,6 @@ ran_decides task (Err refusals.NoMemory) accepted late = tt
 ran_decides task (Err refusals.FileTooLarge) accepted late = absurd (late refusals.FileTooLarge refl)
 ran_decides task (Err (refusals.Elf fault)) accepted late = absurd (late (refusals.Elf fault) refl)
 ran_decides task (Err (refusals.ArgsTooLong bytes)) accepted late = absurd (late (refusals.ArgsTooLong bytes) refl)
-ran_decides task (Err refusals.NotBuilt) accepted late = absurd (late refusals.NotBuilt refl)
 ran_decides task (Err (refusals.UnsupportedCall number pc)) accepted late = accepted
 ran_decides task (Err (refusals.BudgetSpent n)) accepted late = accepted
 ran_decides task (Err refusals.InputFault) accepted late = accepted

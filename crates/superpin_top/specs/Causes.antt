@@ -42,7 +42,6 @@ cause_of refusals.InputFault = Some Input
 cause_of (refusals.OutputFault port) = Some (To port)
 cause_of refusals.ReportFault = Some (To Report)
 cause_of refusals.NoMemory = None
-cause_of refusals.NotBuilt = None
 
 -- the report is no port of an output fault
 abbrev pub IsOfGuest : Refusal → Type 0
@@ -58,7 +57,6 @@ is_early (refusals.Usage kind) = true
 is_early refusals.FileTooLarge = true
 is_early (refusals.Elf fault) = true
 is_early (refusals.ArgsTooLong bytes) = true
-is_early refusals.NotBuilt = true
 is_early refusal = false
 
 -- those that the run decides, from the input and the moments too

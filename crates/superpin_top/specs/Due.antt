@@ -59,18 +59,31 @@ run_task file r = task_of_file file (task_of_image file r)
 abbrev pub view_task : List ℕ → Result Task Refusal
 view_task file = task_of_file file (Ok (Shows (image_of file)))
 
-abbrev pub task_in : Files → Wanted → Result Task Refusal
-task_in files (ToRun r) = run_task (file_of files r.file) r
-task_in files (ToView name) = view_task (file_of files name)
-task_in files (ToDemo n) = Err refusals.NotBuilt
+-- a demonstration has no file, and nothing of the outside determines it (`DemoOutcome` says what it leaves)
+abbrev pub task_in : Files → Wanted → Option (Result Task Refusal)
+task_in files (ToRun r) = Some (run_task (file_of files r.file) r)
+task_in files (ToView name) = Some (view_task (file_of files name))
+task_in files (ToDemo n) = None
 
-abbrev pub task_of_wanted : Result Wanted UsageKind → Files → Result Task Refusal
-task_of_wanted (Err kind) files = Err (refusals.Usage kind)
+abbrev pub task_of_wanted : Result Wanted UsageKind → Files → Option (Result Task Refusal)
+task_of_wanted (Err kind) files = Some (Err (refusals.Usage kind))
 task_of_wanted (Ok wanted) files = task_in files wanted
 
--- what the words ask for, or the first refusal
-unfoldable pub task_of : List (List ℕ) → Files → Result Task Refusal
+-- what the words ask for, or the first refusal; none where they ask for a demonstration
+unfoldable pub task_of : List (List ℕ) → Files → Option (Result Task Refusal)
 task_of words files = task_of_wanted (words_wanted words) files
+
+-- holds of what the words ask for, unless that is a demonstration
+abbrev pub OfTask : Option (Result Task Refusal) → (Result Task Refusal → Type 0) → Type 0
+OfTask None P = Unit {0}
+OfTask (Some task) P = P task
+
+-- the words ask for the demonstration of a number
+abbrev pub demo_wanted : Result Wanted UsageKind → Option ℕ
+demo_wanted (Ok (ToRun r)) = None
+demo_wanted (Ok (ToView name)) = None
+demo_wanted (Ok (ToDemo n)) = Some n
+demo_wanted (Err kind) = None
 
 -- how the words ask for a run to be made
 abbrev pub by_wanted : Result Wanted UsageKind → Option By
@@ -87,9 +100,6 @@ abbrev pub due_task : Result Task Refusal → World → Slicing → Due
 due_task (Err refusal) w s = due_refused refusal [] w
 due_task (Ok (Runs p)) w s = due_run (run_of_program p w) s
 due_task (Ok (Shows image)) w s = due_shown (view_text image) w
-
-abbrev pub due_of : List (List ℕ) → Files → World → Slicing → Due
-due_of words files w s = due_task (task_of words files) w s
 
 -- the slicing that an answer tells
 abbrev pub not_sliced : Slicing

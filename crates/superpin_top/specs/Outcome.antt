@@ -1,8 +1,9 @@
 -- What is answered, and what stands where then.
-use Rattle.std.specs.Prelude.{◌≡◌, ◌≢◌, ℕ, ◌-◌, ◌^◌, ◌<◌, ◌||◌, true, List, [], ◌++◌, Option, Some, Result, Ok, Err, ◌⊎◌, ◌↔◌}
+use Rattle.std.specs.Prelude.{◌≡◌, ◌≢◌, ℕ, ◌-◌, ◌^◌, ◌<◌, ◌||◌, true, List, [], ◌++◌, length, Option, None, Some, Result, Ok, Err, ◌⊎◌, ◌↔◌}
 use Rattle.sp_host.specs.Told.{Told, Files, appended, sent as sent_to, PartSent}
 use Rattle.sp_host.specs.Faults.{To, Faults, Faulted}
 use Rattle.sp_host.specs.declared.host.Port.TheVariants.{Out, Report}
+use Rattle.elf_load.specs.Elf.{image_of, refusal_of}
 use Rattle.elf_load.specs.Image.{ImageFields}
 use Rattle.guest_model.specs.Call.{World}
 use Rattle.guest_model.specs.Serial.{sent_at}
@@ -19,7 +20,10 @@ use Rattle.sp_report.specs.declared.answer.Refusal.TheVariants as refusals
 use Rattle.serial_run.specs.Run.{StepBefore}
 use Rattle.sp_words.specs.Due.{Due, Program, delivered, due_run, run_of_program}
 use Rattle.sp_words.specs.Run.{IsSlicedBy, Run, Slicing, steps_of}
-use Rattle.superpin_top.specs.Due.{Task, Runs, Shows, due_task, not_sliced, slicing_in}
+use Rattle.demo_run.specs.Demo.{DemoGives, IsDemoText}
+use Rattle.prog_gen.specs.Demo.{demo_headers, demo_instrs}
+use Rattle.prog_gen.specs.File.{Adds}
+use Rattle.superpin_top.specs.Due.{OfTask, Task, Runs, Shows, due_task, not_sliced, slicing_in, task_of}
 use Rattle.superpin_top.specs.Engine.{WantsWithin}
 use Rattle.superpin_top.specs.Causes.{CausedBy, is_early, is_of_run}
 use Rattle.superpin_top.specs.declared.engine.Done.{Done}
@@ -27,6 +31,10 @@ use Rattle.superpin_top.specs.declared.engine.Done.{Done}
 -- holds of the files and of the input and moments left, where they are told
 abbrev pub WhereAllTold : Told → (Files → World → Type 0) → Type 0
 WhereAllTold t P = (files : Files) (w : World) → t.files ≡ Some files → t.input ≡ Some w.input → t.moments ≡ Some w.moments → P files w
+
+-- the same, and of what the words ask for where that is no demonstration
+abbrev pub WhereDue : Told → List (List ℕ) → (Result Task Refusal → World → Type 0) → Type 0
+WhereDue t words P = WhereAllTold t (λ files w. OfTask (task_of words files) (λ task. P task w))
 
 -- the due answer is this one, and its bytes but for the report were written
 pub record IsDue (t : Told) (d : Due) (answer : Answer) (new : Told) : Type 0 where
@@ -152,7 +160,6 @@ IsDecided task (Err (refusals.Usage kind)) = task ≡ Err (refusals.Usage kind)
 IsDecided task (Err refusals.FileTooLarge) = task ≡ Err refusals.FileTooLarge
 IsDecided task (Err (refusals.Elf fault)) = task ≡ Err (refusals.Elf fault)
 IsDecided task (Err (refusals.ArgsTooLong bytes)) = task ≡ Err (refusals.ArgsTooLong bytes)
-IsDecided task (Err refusals.NotBuilt) = task ≡ Err refusals.NotBuilt
 IsDecided task (Err _) = IsAccepted task
 
 -- a status is answered only where no count rose
@@ -182,3 +189,41 @@ pub record AddsFront (old : Option (List ℕ)) (bytes : List ℕ) (new : Option 
   pub rest : List ℕ
   pub is_front : written ++ rest ≡ bytes
   pub told_is : new ≡ appended old written
+
+-- a text was written to the standard output, or a proper beginning of it
+abbrev pub ShowTells : List ℕ → Told → Result Done Refusal → Told → Type 0
+ShowTells text t (Ok done) new = (done ≡ record { status = 0; cuts = []; lines = [] }) × (new ≡ sent_to Out text t)
+ShowTells text t (Err (refusals.OutputFault port)) new = (port ≡ Out) × PartSent Out text t new
+ShowTells text t (Err _) new = ⊥
+
+-- the demonstration of this number prints this: the file is the one of its program
+abbrev pub DemoPrints : ℕ → List ℕ → Type 0
+DemoPrints n text = (file : List ℕ) × Adds (demo_instrs n) demo_headers file × (refusal_of file ≡ None) × IsDemoText n (length file) (image_of file) text
+
+-- what a demonstration that is refused leaves, before the line of the refusal is written: nothing, or a proper beginning of its text
+abbrev pub DemoRefuses : ℕ → Told → Refusal → Told → Type 0
+DemoRefuses n t (refusals.OutputFault port) new = (port ≡ Out) × ((text : List ℕ) × DemoPrints n text × PartSent Out text t new)
+DemoRefuses n t refusal new = DemoGives n (Err refusal) × (new ≡ t)
+
+abbrev pub DemoTells : ℕ → Told → Result Done Refusal → Told → Type 0
+DemoTells n t (Ok done) new = (done.status ≡ 0) × (done.cuts ≡ []) × (done.lines ≡ []) × ((text : List ℕ) × DemoPrints n text × (new ≡ sent_to Out text t))
+DemoTells n t (Err refusal) new = DemoRefuses n t refusal new
+
+-- what a demonstration answers, and what stands where then
+pub record IsDemoEnded (n : ℕ) (t : Told) (before : Faults) (answer : Answer) (new : Told) (after : Faults) : Type 0 where
+  pub answer_is : answer ≡ Ended 0 [] []
+  pub text : List ℕ
+  pub prints : DemoPrints n text
+  pub told_is : new ≡ sent_to Out text t
+  pub same : after ≡ before
+
+pub record IsDemoRefused (n : ℕ) (t : Told) (before : Faults) (refusal : Refusal) (new : Told) (after : Faults) : Type 0 where
+  pub mid : Told
+  pub middle : Faults
+  pub refuses : DemoRefuses n t refusal mid
+  pub caused : CausedBy refusal before middle
+  pub writes : WritesLine refusal mid new middle after
+
+abbrev pub DemoOutcome : ℕ → Told → Faults → Answer → Told → Faults → Type 0
+DemoOutcome n t before (Ended status cuts lines) new after = IsDemoEnded n t before (Ended status cuts lines) new after
+DemoOutcome n t before (Refused refusal) new after = IsDemoRefused n t before refusal new after

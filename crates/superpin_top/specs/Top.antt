@@ -57,13 +57,11 @@ IsLate refusals.FileFault = ⊥
 IsLate refusals.FileTooLarge = ⊥
 IsLate (refusals.Elf fault) = ⊥
 IsLate (refusals.ArgsTooLong bytes) = ⊥
-IsLate refusals.NotBuilt = ⊥
 IsLate refusal = Unit {0}
 
 -- the words were read
 abbrev pub IsPastWords : Refusal → Type 0
 IsPastWords (refusals.Usage kind) = ⊥
-IsPastWords refusals.NotBuilt = ⊥
 IsPastWords refusal = Unit {0}
 
 -- A refusal of the words is that of their first fault, and where they have one, and memory was found, it is what is answered.

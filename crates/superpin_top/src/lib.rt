@@ -6,6 +6,7 @@ mod file;
 mod program;
 mod report;
 mod run;
+mod show;
 mod top;
 mod view;
 mod words;

@@ -1,10 +1,11 @@
 // What the program does between the system and the top call.
-ghost use Rattle.std.specs.Prelude.{◌≡◌, IfOk, IfErr};
+ghost use Rattle.std.specs.Prelude.{◌≡◌, ℕ, Some, IfOk, IfErr};
 ghost use Rattle.sp_report.specs.Answer.{exit_code_of};
 ghost use Rattle.sp_report.specs.declared.answer.Answer.{Answer};
 ghost use Rattle.window_run.specs.Windows.{shows};
-ghost use Rattle.superpin_top.specs.Due.{task_of, texts};
-ghost use Rattle.superpin_top.specs.Outcome.{Outcome, WhereAllTold, WritesLine};
+ghost use Rattle.sp_words.specs.Asked.{words_wanted};
+ghost use Rattle.superpin_top.specs.Due.{demo_wanted, texts};
+ghost use Rattle.superpin_top.specs.Outcome.{DemoOutcome, Outcome, WhereDue, WritesLine};
 
 use crate::top::{refuse, superpin};
 use sp_host::{Host, Pacer, StdHost, TimePacer};
@@ -24,12 +25,15 @@ pub fn answer_words<H: Host + Send, P: Pacer + Send, R: Threads + Sync>(
     host: &mut H,
     pacer: &mut P,
 ) -> u8
-    ensures read { IfOk words (λ words. WhereAllTold (H.told host.old) (λ files w.
+    ensures read { IfOk words (λ words. WhereDue (H.told host.old) (texts words.items) (λ task w.
         (answer : Answer) × (result ≡ exit_code_of answer) ×
-        Outcome (H.told host.old) (task_of (texts words.items) files) w
+        Outcome (H.told host.old) task w
         (shows (P.period_shown pacer.old) (P.tally pacer.old) (P.answers pacer.old))
         (H.faults host.old) answer (H.told host.new) (H.faults host.new)
         (shows (P.period_shown pacer.new) (P.tally pacer.new) (P.answers pacer.new)))) }
+    ensures demo { IfOk words (λ words. (n : ℕ) → demo_wanted (words_wanted (texts words.items)) ≡ Some n →
+        (answer : Answer) × (result ≡ exit_code_of answer) ×
+        DemoOutcome n (H.told host.old) (H.faults host.old) answer (H.told host.new) (H.faults host.new)) }
     ensures unread { IfErr words (λ refusal. (result ≡ 125) ×
         WritesLine refusal (H.told host.old) (H.told host.new) (H.faults host.old) (H.faults host.new)) }
 {

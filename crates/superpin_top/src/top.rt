@@ -1,5 +1,5 @@
 // From the words to the answer.
-ghost use Rattle.std.specs.Prelude.{◌≡◌, ◌≢◌, ◌<◌, ◌≤◌, ◌↔◌, ◌^◌, ◌-◌, [], length};
+ghost use Rattle.std.specs.Prelude.{◌≡◌, ◌≢◌, ◌<◌, ◌≤◌, ◌↔◌, ◌^◌, ◌-◌, ℕ, [], length};
 ghost use Rattle.std.specs.Prelude.{None, Some, IfOk, IfErr, MatchResult};
 ghost use Rattle.sp_host.specs.Told.{WhereTold, file_of};
 ghost use Rattle.sp_host.specs.Faults.{To, count_of};
@@ -8,8 +8,8 @@ ghost use Rattle.guest_mem.specs.Frames.{free_frames};
 ghost use Rattle.sp_words.specs.Asked.{RunWanted, run_of_asked, words_wanted};
 ghost use Rattle.window_run.specs.Windows.{shows};
 ghost use Rattle.superpin_top.specs.Causes.{CausedBy, cause_of};
-ghost use Rattle.superpin_top.specs.Due.{by_wanted, due_of, run_task, slicing_in, strings_of, task_of, texts};
-ghost use Rattle.superpin_top.specs.Outcome.{WhereAllTold, AttemptGives, WritesLine, Outcome};
+ghost use Rattle.superpin_top.specs.Due.{OfTask, by_wanted, demo_wanted, due_task, run_task, slicing_in, strings_of, task_of, texts};
+ghost use Rattle.superpin_top.specs.Outcome.{WhereAllTold, WhereDue, AttemptGives, WritesLine, Outcome, DemoOutcome, DemoTells};
 ghost use Rattle.superpin_top.specs.Outcome.{CanRise, NoneRose, IsDelivered, IsDecided, IsEarly, IsCaused};
 ghost use Rattle.superpin_top.specs.Outcome.{AddsFront, IsEndedWhereNone, TellsSlices};
 ghost use Rattle.superpin_top.specs.Top.{IsOfWords, IsPastWords, LoadGives, answer_by, cuts_in};
@@ -17,6 +17,7 @@ ghost use Rattle.superpin_top.specs.Top.{IsOfWords, IsPastWords, LoadGives, answ
 use crate::engine::{Done, How, frames_of};
 use crate::file::{load_image, read_program};
 use crate::run::run_loaded;
+use crate::show::demo_asked;
 use crate::view::view_asked;
 use crate::words::{refusal_of_words, strings_of};
 use elf_load::Image;
@@ -126,13 +127,15 @@ fn attempt<H: Host + Send, P: Pacer + Send, R: Threads + Sync>(
 ) -> Result<Done, Refusal>
     ensures words { IsOfWords (words_wanted (texts words.now)) (answer_by result) }
     ensures early { WhereTold (H.told host.old).files (λ files.
-        IsDecided (task_of (texts words.now) files) result) }
-    ensures told { WhereAllTold (H.told host.old) (λ files w.
-        AttemptGives (H.told host.old) (task_of (texts words.now) files) w
+        OfTask (task_of (texts words.now) files) (λ task. IsDecided task result)) }
+    ensures told { WhereDue (H.told host.old) (texts words.now) (λ task w.
+        AttemptGives (H.told host.old) task w
         (shows (P.period_shown pacer.old) (P.tally pacer.old) (P.answers pacer.old)) result (H.told host.new)
         (shows (P.period_shown pacer.new) (P.tally pacer.new) (P.answers pacer.new))) }
     ensures faults { MatchResult result (λ _. H.faults host.new ≡ H.faults host.old)
         (λ e. CausedBy e (H.faults host.old) (H.faults host.new)) }
+    ensures demo { (n : ℕ) → demo_wanted (words_wanted (texts words.now)) ≡ Some n
+        → DemoTells n (H.told host.old) result (H.told host.new) }
     ensures serial { by_wanted (words_wanted (texts words.now)) ≢ Some By.Windows → pacer.new ≡ pacer.old }
     ensures uncut { by_wanted (words_wanted (texts words.now)) ≢ Some By.Windows
         → IfOk result (λ done. done.cuts ≡ []) }
@@ -140,7 +143,7 @@ fn attempt<H: Host + Send, P: Pacer + Send, R: Threads + Sync>(
     match read_words(alloc, words) {
         Ok(Asked::Run(run)) => run_asked(rt, alloc, run, host, pacer),
         Ok(Asked::View { file }) => view_asked(alloc, file.as_str(), host),
-        Ok(Asked::Demo { n: _ }) => Err(Refusal::NotBuilt),
+        Ok(Asked::Demo { n }) => demo_asked(rt, alloc, n, host),
         Err(fault) => Err(refusal_of_words(fault)),
     }
 }
@@ -159,7 +162,8 @@ pub(crate) fn refuse<H: Host>(host: &mut H, refusal: &Refusal)
 /// Does what the words ask for. `run [OPTIONS] FILE [ARGS]`: the run's bytes go to the host's standard output and standard
 /// error, and its report to the port of reports; by windows, as is usual, the run goes without the tool, and is cut where the
 /// pacer or a limit says so, while other threads run its slices again with the tool. `view FILE`: the text of the file's code
-/// goes to the standard output. The line of a refusal goes to the port of reports.
+/// goes to the standard output. `demo N`: the program of this number is generated and run both ways, and what came of it goes to
+/// the standard output. The line of a refusal goes to the port of reports.
 ///
 /// The answer is the due one, but for the faults of the file, of the input, of the outputs and of
 /// the report, which come where their count rose, and for want of memory.
@@ -196,11 +200,11 @@ pub fn superpin<H: Host + Send, P: Pacer + Send, R: Threads + Sync>(
         (λ files. (H.faults host.old).file < 2 ^ 64 - 1 →
         (H.faults host.new).file ≡ (H.faults host.old).file →
         result ≢ Answer.Refused Refusal.NoMemory →
-        IsEarly (task_of (texts words.now) files) result) }
+        OfTask (task_of (texts words.now) files) (λ task. IsEarly task result)) }
 
     // Where the host tells: what is answered, and what stands where then, for each answer.
-    ensures outcome { WhereAllTold (H.told host.old) (λ files w.
-        Outcome (H.told host.old) (task_of (texts words.now) files) w
+    ensures outcome { WhereDue (H.told host.old) (texts words.now) (λ task w.
+        Outcome (H.told host.old) task w
         (shows (P.period_shown pacer.old) (P.tally pacer.old) (P.answers pacer.old))
         (H.faults host.old) result (H.told host.new) (H.faults host.new)
         (shows (P.period_shown pacer.new) (P.tally pacer.new) (P.answers pacer.new))) }
@@ -208,29 +212,33 @@ pub fn superpin<H: Host + Send, P: Pacer + Send, R: Threads + Sync>(
     // The headline: where no count rose, the answer is the due one with exactly the due bytes, or
     // want of memory. The cuts that it tells are those that the pacer's answers and the limits make
     // due, and its lines are those of the slices between them.
-    ensures headline { WhereAllTold (H.told host.old) (λ files w.
+    ensures headline { WhereDue (H.told host.old) (texts words.now) (λ task w.
         CanRise (H.faults host.old) → H.faults host.new ≡ H.faults host.old →
-        IsDelivered (H.told host.old) (due_of (texts words.now) files w (slicing_in result)) result
+        IsDelivered (H.told host.old) (due_task task w (slicing_in result)) result
         (H.told host.new)) }
-    ensures sliced { WhereAllTold (H.told host.old) (λ files w.
-        TellsSlices (task_of (texts words.now) files) w
+    ensures sliced { WhereDue (H.told host.old) (texts words.now) (λ task w.
+        TellsSlices task w
         (shows (P.period_shown pacer.old) (P.tally pacer.old) (P.answers pacer.old))
         (shows (P.period_shown pacer.new) (P.tally pacer.new) (P.answers pacer.new)) result) }
 
     // The cause of every other answer, where no call of the run failed and memory was found.
-    ensures causes { WhereAllTold (H.told host.old) (λ files w.
+    ensures causes { WhereDue (H.told host.old) (texts words.now) (λ task w.
         CanRise (H.faults host.old) → NoneRose (H.faults host.old) (H.faults host.new) →
         result ≢ Answer.Refused Refusal.NoMemory →
-        IsCaused (due_of (texts words.now) files w (slicing_in result)) (H.faults host.old)
+        IsCaused (due_task task w (slicing_in result)) (H.faults host.old)
         (H.faults host.new) result) }
 
     // Whatever is answered, what was sent to an output is a beginning of what the run sends there.
-    ensures front { WhereAllTold (H.told host.old) (λ files w.
-        AddsFront (H.told host.old).out (due_of (texts words.now) files w (slicing_in result)).out
+    ensures front { WhereDue (H.told host.old) (texts words.now) (λ task w.
+        AddsFront (H.told host.old).out (due_task task w (slicing_in result)).out
         (H.told host.new).out) }
-    ensures error_front { WhereAllTold (H.told host.old) (λ files w.
-        AddsFront (H.told host.old).err (due_of (texts words.now) files w (slicing_in result)).err
+    ensures error_front { WhereDue (H.told host.old) (texts words.now) (λ task w.
+        AddsFront (H.told host.old).err (due_task task w (slicing_in result)).err
         (H.told host.new).err) }
+
+    // A demonstration: what it prints is what the definitions say of the program of its number, on every host.
+    ensures demo { (n : ℕ) → demo_wanted (words_wanted (texts words.now)) ≡ Some n
+        → DemoOutcome n (H.told host.old) (H.faults host.old) result (H.told host.new) (H.faults host.new) }
 {
     match attempt(rt, alloc, words, host, pacer) {
         Ok(done) => Answer::Ended {

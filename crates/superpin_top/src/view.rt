@@ -11,10 +11,11 @@ ghost use Rattle.superpin_top.specs.Top.{IsPastWords, TextGives};
 
 use crate::engine::Done;
 use crate::file::{load_image, read_program};
+use crate::show::show;
 use elf_load::Image;
 use ins_views::Views;
-use sp_host::{Host, Port, write_whole};
-use sp_report::{Cuts, Lines, Refusal, view_text};
+use sp_host::Host;
+use sp_report::{Refusal, view_text};
 use std::alloc::{AllocError, Global};
 
 // The text of an image's code.
@@ -74,12 +75,5 @@ pub(crate) fn view_asked<H: Host>(alloc: Global, name: &str, host: &mut H) -> Re
         Ok(text) => text,
         Err(refusal) => return Err(refusal),
     };
-    match write_whole(host, Port::Out, &text) {
-        Ok(()) => Ok(Done {
-            status: 0,
-            cuts: Cuts::none(alloc),
-            lines: Lines::none(alloc),
-        }),
-        Err(_) => Err(Refusal::OutputFault { port: Port::Out }),
-    }
+    show(alloc, &text, host)
 }

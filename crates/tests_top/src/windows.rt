@@ -1,5 +1,7 @@
 // Runs by windows, which is the usual way. Each count is of the manual's instructions by hand, as the positions of cuts are.
-use crate::outside::{HELLO, Wanted, are, is_cut, is_refused, outside_of, run_paced};
+use crate::outside::{
+    HELLO, Wanted, are, has_no_line, is_cut, is_refused, outside_of, run_paced,
+};
 use sample_files::{one_segment, two_segments};
 use sp_host::Port;
 use std::alloc::{AllocError, Global};
@@ -189,5 +191,19 @@ fn runs_by_windows(rt: HostRuntime) -> Result<(), Fail> {
     for (k, row) in ROWS.iter().enumerate() {
         assert!(rt; holds(&rt, rt.alloc(), row)?, "row {k}");
     }
+    Ok(())
+}
+
+const DEMO_7: &[u8] = b"demo 7 file 2640\nicount 77553\nbcount 9065 77553\n\
+    cache 64 32 accesses 11078 hits 1007 misses 10071\nend exit 0\ncuts 18\n\
+    matches 971 18 18 18\nequal\n";
+
+#[test]
+fn a_program_is_demonstrated(rt: HostRuntime) -> Result<(), Fail> {
+    let alloc = rt.alloc();
+    let outside = outside_of(alloc, Vec::new(alloc), 65_536);
+    let done = run_paced(&rt, alloc, &["demo", "7"], outside, &[])?;
+    assert!(rt; is_cut(&done.answer, 0, &[]) && has_no_line(&done.answer));
+    assert!(rt; are(&done.out, DEMO_7) && done.err.is_empty() && done.report.is_empty());
     Ok(())
 }

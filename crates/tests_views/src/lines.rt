@@ -10,7 +10,7 @@ use sp_report::{
 use std::test::Fail;
 use tool_law::Hits;
 
-const LINES: [(Refusal, &str); 44] = [
+const LINES: [(Refusal, &str); 43] = [
     (
         Refusal::Usage(UsageKind::NoCommand),
         "superpin: 1 usage no command\n",
@@ -187,7 +187,6 @@ const LINES: [(Refusal, &str); 44] = [
     ),
     (Refusal::ReportFault, ""),
     (Refusal::NoMemory, "superpin: 11 no memory\n"),
-    (Refusal::NotBuilt, "superpin: 90 not built\n"),
 ];
 
 #[test]
