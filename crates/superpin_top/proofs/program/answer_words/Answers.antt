@@ -1,0 +1,22 @@
+use Rattle.std.proofs.Common.{List, ℕ, String, Vec, IfOk, sym, subst}
+use Rattle.std.specs.Prelude.{Result}
+use Rattle.std.specs.declared.alloc.Global.{Global}
+use Rattle.sp_report.specs.declared.answer.Refusal.{Refusal}
+use Rattle.window_run.specs.Windows.{shows}
+use Rattle.superpin_top.specs.Due.{OfTask, task_of, texts}
+use Rattle.superpin_top.specs.Outcome.{Outcome}
+use Rattle.superpin_top.proofs.Ready.{of_each}
+use Rattle.superpin_top.proofs.program.answer_words.Goals as goal
+
+pub returns-in-Ok-clause-read : goal.returns-in-Ok-clause-read
+returns-in-Ok-clause-read g c =
+    let t = g.H.Host.told c.args.host.now in
+    let new = g.H.Host.told c.superpin-answer.new.host in
+    let first = shows (g.P.Pacer.period_shown c.args.pacer.now) (g.P.Pacer.tally c.args.pacer.now) (g.P.Pacer.answers c.args.pacer.now) in
+    let now = shows (g.P.Pacer.period_shown c.superpin-answer.new.pacer) (g.P.Pacer.tally c.superpin-answer.new.pacer) (g.P.Pacer.answers c.superpin-answer.new.pacer) in
+    let before = g.H.Host.faults c.args.host.now in
+    let after = g.H.Host.faults c.superpin-answer.new.host in
+    let answer = c.superpin-answer.result in
+    subst (λ (r : Result (Vec (String Global) Global) Refusal). IfOk r _) (sym c.in-Ok.is)
+    (λ files w files_are input moments. of_each (task_of (texts c.in-Ok.words.items) files) (λ task. Outcome t task w first before answer new after now) _ (λ task o. (answer, c.exit_code.ensures, o))
+    (subst (λ (words : List (String Global)). OfTask (task_of (texts words) files) (λ task. Outcome t task w first before answer new after now)) c.deref.ensures.value (c.superpin-answer.ensures.outcome files w files_are input moments)))
