@@ -1,14 +1,12 @@
 -- From what the runs give to what is due.
-use Rattle.std.proofs.Common.{◌≡◌, ℕ, ◌/◌, ◌<◌, ◌≤◌, Bool, false, List, [], length, map, refl, sym, ap, subst, ◌∙◌, arith, lit<}
-use Rattle.std.specs.Prelude.{Option, Some, None, Ok, Err, Vec, ◌==◌, if◌then◌else◌}
+use Rattle.std.proofs.Common.{◌≡◌, ℕ, ◌/◌, ◌<◌, ◌≤◌, Bool, false, List, length, map, ap, subst, ◌∙◌, lit<}
+use Rattle.std.specs.Prelude.{Some, None, Ok, Err, Vec}
 use Rattle.std.specs.declared.alloc.Global.{Global}
 use Rattle.sp_host.specs.Told.{Told}
 use Rattle.elf_load.specs.Elf.{image_of, refusal_of}
 use Rattle.elf_load.specs.Image.{ImageFields}
-use Rattle.guest_model.specs.Call.{World}
 use Rattle.guest_model.specs.Machine.{Machine}
-use Rattle.guest_model.specs.Runs.{RunState, Running, Ended}
-use Rattle.guest_model.specs.Serial.{End, EndsAt, Exit, Position, Signal, TraceItem, Unsupported, run_of}
+use Rattle.guest_model.specs.Serial.{TraceItem}
 use Rattle.boundary_verify.specs.Cuts.{AreCuts, CutLimits, cut_limits}
 use Rattle.master_run.specs.Answers.{PacerState}
 use Rattle.master_run.specs.Master.{limits_of}
@@ -17,11 +15,6 @@ use Rattle.ordered_merge.specs.declared.finished.Finished.{Finished}
 use Rattle.prog_gen.specs.Demo.{demo_headers, demo_instrs}
 use Rattle.prog_gen.specs.File.{Adds}
 use Rattle.rv_machine.specs.Load.{machine_of}
-use Rattle.rv_machine.specs.Step.{kind_number}
-use Rattle.rv_machine.specs.declared.step.End.{End as GuestEnd}
-use Rattle.rv_machine.specs.declared.step.End.TheVariants as ends
-use Rattle.rv_machine.specs.declared.step.FaultKind.{FaultKind}
-use Rattle.rv_machine.specs.declared.step.FaultKind.TheVariants.{Illegal, Break, Misaligned, Access}
 use Rattle.serial_run.specs.Run.{RunFails}
 use Rattle.serial_run.specs.Start.{Run, start_of}
 use Rattle.sp_report.specs.Lines.{end_by}
@@ -30,8 +23,8 @@ use Rattle.sp_report.specs.declared.answer.Refusal.TheVariants as refusals
 use Rattle.syscall_layer.specs.declared.fault.RunFault.{RunFault}
 use Rattle.syscall_layer.specs.declared.fault.RunFault.TheVariants as faults
 use Rattle.window_run.specs.Windows.{WindowsEnd, WindowsFail, line_by}
-use Rattle.demo_run.specs.Demo.{DemoGives, IsDemoText, RunRefused, all_lines, bcount_line, cache_line, demo_answers, demo_limits, demo_run, demo_strings, icount_line, no_world}
-use Rattle.demo_run.specs.Parts.{AreUsual, HasEnded, HasNoSource, IsCutRun, ThreeGive, refusal_by}
+use Rattle.demo_run.specs.Demo.{DemoGives, IsDemoText, RunRefused, all_lines, bcount_line, demo_answers, demo_limits, demo_run, demo_strings, icount_line, no_world}
+use Rattle.demo_run.specs.Parts.{AreUsual, HasNoSource, IsCutRun, ThreeGive, refusal_by}
 use Rattle.demo_run.specs.declared.demo.Three.{Three}
 use Rattle.demo_run.proofs.Answered.{same_cuts}
 
@@ -79,33 +72,6 @@ cut_run is_value t new limits image first now f usual answers h =
       cuts_are = same_cuts demo_limits h.answers demo_answers start h.steps (lit< tt) agree 0 f.cuts.items cuts;
       lines_are = h.lines;
     }
-
--- a run ends in one way
-abbrev kind_of : ℕ → FaultKind
-kind_of n = if n == 4 then Illegal else (if n == 5 then Break else (if n == 7 then Misaligned else Access))
-
-kind_back : (kind : FaultKind) → kind_of (kind_number kind) ≡ kind
-kind_back Illegal = refl
-kind_back Break = refl
-kind_back Misaligned = refl
-kind_back Access = refl
-
-abbrev end_of : RunState Position End → End
-end_of (Running p) = Exit 0
-end_of (Ended p end) = end
-
--- the end of a guest that tells it so
-abbrev told_back : End → GuestEnd
-told_back (Exit status) = ends.Exit status
-told_back (Signal kind pc) = ends.Signal (kind_of kind) pc
-told_back (Unsupported number pc) = ends.Exit 0
-
-end_back : (end : GuestEnd) → told_back (end_by end) ≡ end
-end_back (ends.Exit status) = refl
-end_back (ends.Signal kind pc) = ap (λ (k : FaultKind). ends.Signal k pc) (kind_back kind)
-
-pub one_end : (image : ImageFields) (a b : GuestEnd) → HasEnded image a → HasEnded image b → a ≡ b
-one_end image a b h k = sym (end_back a) ∙ ap (λ (x : RunState Position End). told_back (end_of x)) (sym h.1 ∙ k.1) ∙ end_back b
 
 -- the refusal of the run of a file's image
 pub refused : (n : ℕ) (file : List ℕ) (image : ImageFields) (refusal : Refusal) → Adds (demo_instrs n) demo_headers file → refusal_of file ≡ None → image ≡ image_of file → RunRefused image refusal → DemoGives n (Err refusal)

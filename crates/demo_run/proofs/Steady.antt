@@ -1,11 +1,11 @@
 -- Runs over a host that never fails.
-use Rattle.std.proofs.Common.{◌≡◌, ℕ, refl, ap, arith}
-use Rattle.std.specs.Prelude.{Option, None, Some, []}
+use Rattle.std.proofs.Common.{◌≡◌, refl, ap, arith}
+use Rattle.std.specs.Prelude.{None, Some, []}
 use Rattle.sp_host.specs.Steady.{no_files}
 use Rattle.sp_host.specs.Told.{Told}
 use Rattle.syscall_layer.specs.Serve.{told_after}
 use Rattle.demo_run.specs.Demo.{no_world}
-use Rattle.sp_host.specs.Faults.{Caused, Faults, Input, To, no_faults}
+use Rattle.sp_host.specs.Faults.{Caused, Faults, To, no_faults}
 use Rattle.sp_host.specs.declared.host.Port.{Port}
 use Rattle.sp_host.specs.declared.host.Port.TheVariants.{Out, Err, Report}
 use Rattle.syscall_layer.specs.Step.{run_source_of}

@@ -1,5 +1,5 @@
 -- Sums over lines.
-use Rattle.std.proofs.Common.{◌≡◌, ℕ, ◌+◌, ◌*◌, ◌^◌, ◌≤◌, List, map, sym, ap}
+use Rattle.std.proofs.Common.{◌≡◌, ℕ, ◌+◌, List, map, sym}
 use Rattle.std.specs.List.{sum_by}
 use Rattle.std.proofs.lemmas.List.Folds.{fold-map}
 use Rattle.guest_model.specs.Tests.{HitCounts}

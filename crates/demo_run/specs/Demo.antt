@@ -1,5 +1,5 @@
 -- What the demonstration of a number prints.
-use Rattle.std.specs.Prelude.{◌≡◌, ℕ, ◌<◌, ◌%◌, ◌==◌, Bool, List, [], ◌∷◌, ◌++◌, length, codes, decimal, Option, None, Some, Result, Ok, Err, Vec}
+use Rattle.std.specs.Prelude.{◌≡◌, ℕ, ◌<◌, ◌%◌, ◌==◌, Bool, List, [], ◌∷◌, ◌++◌, length, codes, decimal, None, Some, Result, Ok, Err, Vec}
 use Rattle.std.specs.List.{sum_by}
 use Rattle.std.specs.declared.alloc.Global.{Global}
 use Rattle.boundary_verify.specs.Cuts.{AreCuts, CutLimits, cut_limits}

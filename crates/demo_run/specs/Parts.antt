@@ -1,5 +1,5 @@
 -- What the parts of the demonstration answer.
-use Rattle.std.specs.Prelude.{◌≡◌, ℕ, ◌<◌, List, map, length, Option, None, Some, Result, Ok, Err}
+use Rattle.std.specs.Prelude.{◌≡◌, ℕ, ◌<◌, List, map, None, Some, Result, Ok, Err}
 use Rattle.boundary_verify.specs.Cuts.{AreCuts}
 use Rattle.boundary_verify.specs.Lines.{AreLines}
 use Rattle.demo_run.specs.Demo.{RunRefused, demo_answers, demo_limits, demo_run, bcount_line, cache_line, icount_line}

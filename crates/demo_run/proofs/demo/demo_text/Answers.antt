@@ -1,4 +1,4 @@
-use Rattle.std.proofs.Common.{◌≡◌, List, ℕ, length, None, rules, ap, sym, subst, ◌∙◌}
+use Rattle.std.proofs.Common.{◌≡◌, length, None, rules, ap, sym, ◌∙◌}
 use Rattle.elf_load.specs.Elf.{image_of, refusal_of}
 use Rattle.demo_run.proofs.Due.{printed, refused}
 use Rattle.demo_run.proofs.demo.demo_text.Goals as goal
