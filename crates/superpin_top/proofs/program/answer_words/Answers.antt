@@ -1,10 +1,12 @@
-use Rattle.std.proofs.Common.{List, ℕ, String, Vec, IfOk, sym, subst}
+use Rattle.std.proofs.Common.{◌≡◌, List, ℕ, String, Vec, IfOk, sym, subst}
 use Rattle.std.specs.Prelude.{Result}
 use Rattle.std.specs.declared.alloc.Global.{Global}
+use Rattle.sp_report.specs.Answer.{exit_code_of}
+use Rattle.sp_report.specs.declared.answer.Answer.{Answer}
 use Rattle.sp_report.specs.declared.answer.Refusal.{Refusal}
 use Rattle.window_run.specs.Windows.{shows}
 use Rattle.superpin_top.specs.Due.{OfTask, task_of, texts}
-use Rattle.superpin_top.specs.Outcome.{Outcome}
+use Rattle.superpin_top.specs.Outcome.{Outcome, WhereDue}
 use Rattle.superpin_top.proofs.Ready.{of_each}
 use Rattle.superpin_top.proofs.program.answer_words.Goals as goal
 
@@ -17,6 +19,9 @@ returns-in-Ok-clause-read g c =
     let before = g.H.Host.faults c.args.host.now in
     let after = g.H.Host.faults c.superpin-answer.new.host in
     let answer = c.superpin-answer.result in
-    subst (λ (r : Result (Vec (String Global) Global) Refusal). IfOk r _) (sym c.in-Ok.is)
-    (λ files w files_are input moments. of_each (task_of (texts c.in-Ok.words.items) files) (λ task. Outcome t task w first before answer new after now) _ (λ task o. (answer, c.exit_code.ensures, o))
-    (subst (λ (words : List (String Global)). OfTask (task_of (texts words) files) (λ task. Outcome t task w first before answer new after now)) c.deref.ensures.value (c.superpin-answer.ensures.outcome files w files_are input moments)))
+    let tells = λ (words : List (String Global)). WhereDue t (texts words) (λ task w. (x : Answer) × (c.exit_code.result ≡ exit_code_of x) × Outcome t task w first before x new after now) in
+    let here : tells c.in-Ok.words.items = λ files w files_are input moments.
+    of_each (task_of (texts c.in-Ok.words.items) files) (λ task. Outcome t task w first before answer new after now) (λ task. (x : Answer) × (c.exit_code.result ≡ exit_code_of x) × Outcome t task w first before x new after now)
+    (λ task o. (answer, c.exit_code.ensures, o))
+    (subst (λ (words : List (String Global)). OfTask (task_of (texts words) files) (λ task. Outcome t task w first before answer new after now)) c.deref.ensures.value (c.superpin-answer.ensures.outcome files w files_are input moments)) in
+    subst (λ (r : Result (Vec (String Global) Global) Refusal). IfOk r (λ words. tells words.items)) (sym c.in-Ok.is) here
