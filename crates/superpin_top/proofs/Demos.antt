@@ -1,14 +1,12 @@
 -- What a demonstration leaves.
 use Rattle.std.proofs.Common.{◌≡◌, ℕ, List, [], refl, ap, sym, subst, ◌∙◌}
-use Rattle.std.specs.Prelude.{Option, None, Some, Result, Ok, Err}
-use Rattle.sp_host.specs.Told.{Told, PartSent, sent as sent_to}
+use Rattle.std.specs.Prelude.{None, Some, Result, Ok, Err}
+use Rattle.sp_host.specs.Told.{Told}
 use Rattle.sp_host.specs.Faults.{Faults}
 use Rattle.sp_host.specs.declared.host.Port.{Port}
-use Rattle.sp_host.specs.declared.host.Port.TheVariants.{Out}
 use Rattle.guest_model.specs.Call.{World}
 use Rattle.master_run.specs.Answers.{PacerState}
-use Rattle.sp_report.specs.declared.answer.Answer.{Answer}
-use Rattle.sp_report.specs.declared.answer.Answer.TheVariants.{Ended, Refused}
+use Rattle.sp_report.specs.declared.answer.Answer.TheVariants.{Ended}
 use Rattle.sp_report.specs.declared.answer.Refusal.{Refusal}
 use Rattle.sp_report.specs.declared.answer.Refusal.TheVariants as refusals
 use Rattle.sp_report.specs.declared.answer.UsageKind.{UsageKind}
@@ -19,7 +17,7 @@ use Rattle.sp_words.specs.declared.asked.WordFault.TheVariants as words
 use Rattle.demo_run.specs.Demo.{DemoGives}
 use Rattle.superpin_top.specs.Causes.{CausedBy, refusal_of_words}
 use Rattle.superpin_top.specs.Due.{Task, demo_wanted}
-use Rattle.superpin_top.specs.Outcome.{AttemptGives, DemoOutcome, DemoPrints, DemoRefuses, DemoTells, IsAccepted, IsDecided, IsDemoEnded, OfText, ShowTells, WritesLine}
+use Rattle.superpin_top.specs.Outcome.{AttemptGives, DemoOutcome, DemoPrints, DemoRefuses, DemoTells, IsAccepted, IsDecided, OfText, ShowTells}
 use Rattle.superpin_top.specs.Top.{IsPastWords}
 use Rattle.superpin_top.specs.declared.engine.Done.{Done}
 use Rattle.superpin_top.proofs.Outcomes.{not_shown, shown}

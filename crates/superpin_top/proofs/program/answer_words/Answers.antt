@@ -1,4 +1,4 @@
-use Rattle.std.proofs.Common.{◌≡◌, List, ℕ, String, Vec, IfOk, sym, subst}
+use Rattle.std.proofs.Common.{◌≡◌, List, String, Vec, IfOk, sym, subst}
 use Rattle.std.specs.Prelude.{Result}
 use Rattle.std.specs.declared.alloc.Global.{Global}
 use Rattle.sp_report.specs.Answer.{exit_code_of}

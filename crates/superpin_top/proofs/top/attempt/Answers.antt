@@ -1,4 +1,4 @@
-use Rattle.std.proofs.Common.{Err, None, Ok, Some, Option, ℕ, refl, ap, sym, subst, ◌≡◌, ◌∙◌}
+use Rattle.std.proofs.Common.{Err, None, Ok, Some, Option, ℕ, ap, sym, subst, ◌≡◌, ◌∙◌}
 use Rattle.std.specs.Prelude.{Result}
 use Rattle.sp_report.specs.declared.answer.Refusal.{Refusal}
 use Rattle.sp_words.specs.Asked.{ToDemo, ToRun, ToView, run_of_asked, wanted_of, words_wanted}

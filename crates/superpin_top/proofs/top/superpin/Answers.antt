@@ -1,12 +1,12 @@
 use Rattle.std.proofs.Common.{◌≡◌, ◌≢◌, ap, arith}
-use Rattle.std.specs.Prelude.{Err, Ok, Result}
+use Rattle.std.specs.Prelude.{Err, Ok}
 use Rattle.sp_host.specs.Faults.{File, Input}
 use Rattle.sp_report.specs.declared.answer.Answer.{Answer}
 use Rattle.sp_report.specs.declared.answer.Answer.TheVariants.{Ended, Refused}
 use Rattle.sp_report.specs.declared.answer.Refusal.{Refusal}
 use Rattle.sp_report.specs.declared.answer.Refusal.TheVariants.{NoMemory}
 use Rattle.window_run.specs.Windows.{shows}
-use Rattle.superpin_top.specs.Due.{Task, due_task, not_sliced, task_of, texts}
+use Rattle.superpin_top.specs.Due.{due_task, not_sliced, task_of, texts}
 use Rattle.superpin_top.specs.Outcome.{AddsFront, AttemptGives, CanRise, IsCaused, IsDecided, IsDelivered, IsEarly, NoneRose, Outcome, TellsSlices, done_slicing}
 use Rattle.superpin_top.proofs.Causes.{refused_where, port_where, report_rose, guests_port}
 use Rattle.superpin_top.proofs.Demos.{demo_ended}
@@ -212,8 +212,8 @@ returns-in-Err-clause-early g c files files_are below same found =
     let where_file = refused_where File refusal _ _ _ _ _ c.in-Err.ensures.faults c.refuse.ensures (λ e. cc) below in
     of_each (task_of (texts c.args.words.now) files) (λ task. IsDecided task (Err refusal)) (λ task. IsEarly task (Refused refusal))
     (λ task decided. early_of task refusal decided
-        (λ e. let rose = where_file.0 (ap (λ (r : Refusal). Refused r) e) in omega (arith, rose, same))
-        (λ e. found (ap (λ (r : Refusal). Refused r) e))) (c.in-Err.ensures.early files files_are)
+    (λ e. let rose = where_file.0 (ap (λ (r : Refusal). Refused r) e) in omega (arith, rose, same))
+    (λ e. found (ap (λ (r : Refusal). Refused r) e))) (c.in-Err.ensures.early files files_are)
 
 pub returns-in-Ok-clause-demo : goal.returns-in-Ok-clause-demo
 returns-in-Ok-clause-demo g c n wants = demo_ended n (g.H.Host.told c.args.host.now) (g.H.Host.told c.attempt.new.host) (g.H.Host.faults c.args.host.now) (g.H.Host.faults c.attempt.new.host) c.in-Ok.done (c.in-Ok.ensures.demo n wants) c.in-Ok.ensures.faults
