@@ -179,16 +179,29 @@ fn finished_of<R: Threads + Sync>(
     Ok(run.ok().ok_or("the run has no end")?)
 }
 
-#[test]
-fn cuts_and_lines(rt: HostRuntime) -> Result<(), Fail> {
-    for (k, row) in ROWS.iter().enumerate() {
-        let finished = finished_of(&rt, rt.alloc(), row)?;
-        assert!(rt; finished.cuts.as_slice() == row.cuts, "row {k}");
-        assert!(rt; are_lines(&finished.lines, row), "row {k}");
-        assert!(rt; finished.shared == steps_of(row.lines), "row {k}");
-        assert!(rt; finished.end == End::Exit(7), "row {k}");
+// Whether the run of a row is cut so, and counts each step.
+fn holds<R: Threads + Sync>(rt: &R, alloc: Global, row: &Row) -> Result<bool, Fail> {
+    let finished = finished_of(rt, alloc, row)?;
+    Ok(
+        finished.cuts.as_slice() == row.cuts
+            && are_lines(&finished.lines, row)
+            && finished.shared == steps_of(row.lines)
+            && finished.end == End::Exit(7),
+    )
+}
+
+// Tries these rows.
+fn expect<R: Abort + AllocGlobal + Threads + Sync>(rt: &R, rows: &[Row]) -> Result<(), Fail> {
+    for (k, row) in rows.iter().enumerate() {
+        let holds = holds(rt, rt.alloc(), row)?;
+        assert!(rt; holds, "row {k}");
     }
     Ok(())
+}
+
+#[test]
+fn cuts_and_lines(rt: HostRuntime) -> Result<(), Fail> {
+    expect(&rt, &ROWS)
 }
 
 // Where the counter is cut that asks the pacer once, behind the 23rd of its 45 steps.

@@ -3,6 +3,7 @@ use crate::programs::{COUNT_TO_SIX, Program, file_of, talk};
 use crate::setting::{BOUNDS, Bounds, NOTHING, Outside, host_of, pacer_of, run};
 use sp_host::{EveryPacer, MemoryHost, Pacer, Port};
 use std::alloc::Global;
+use std::process::Abort;
 use std::test::Fail;
 use std::thread::Threads;
 use syscall_layer::RunFault;
@@ -130,22 +131,31 @@ fn fault_of<P: Pacer + Send, R: Threads + Sync>(
     Ok(run.err())
 }
 
-#[test]
-fn faults_and_what_was_written(rt: HostRuntime) -> Result<(), Fail> {
-    let alloc = rt.alloc();
-    let file = talk(alloc)?;
-    for (k, row) in ROWS.iter().enumerate() {
-        let bounds = Bounds {
-            budget: row.budget,
-            ..BOUNDS
-        };
-        let mut host = host_of(alloc, &row.outside)?;
-        let mut pacer = EveryPacer::new(1);
-        let fault = fault_of(&rt, alloc, &file, &bounds, &mut host, &mut pacer)?;
-        assert!(rt; fault == row.fault, "row {k}");
-        assert!(rt; host.written(Port::Out) == row.out, "row {k}");
+// Whether the talking program is stopped as a row says.
+fn holds<R: Threads + Sync>(rt: &R, alloc: Global, file: &[u8], row: &Row) -> Result<bool, Fail> {
+    let bounds = Bounds {
+        budget: row.budget,
+        ..BOUNDS
+    };
+    let mut host = host_of(alloc, &row.outside)?;
+    let mut pacer = EveryPacer::new(1);
+    let fault = fault_of(rt, alloc, file, &bounds, &mut host, &mut pacer)?;
+    Ok(fault == row.fault && host.written(Port::Out) == row.out)
+}
+
+// Tries these rows.
+fn expect<R: Abort + AllocGlobal + Threads + Sync>(rt: &R, rows: &[Row]) -> Result<(), Fail> {
+    let file = talk(rt.alloc())?;
+    for (k, row) in rows.iter().enumerate() {
+        let holds = holds(rt, rt.alloc(), &file, row)?;
+        assert!(rt; holds, "row {k}");
     }
     Ok(())
+}
+
+#[test]
+fn faults_and_what_was_written(rt: HostRuntime) -> Result<(), Fail> {
+    expect(&rt, &ROWS)
 }
 
 // The budget is spent in the second slice.
