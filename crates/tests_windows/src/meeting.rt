@@ -3,7 +3,7 @@ ghost use Rattle.std.specs.Prelude.{◌≡◌, ℕ, decimal, false};
 ghost use Rattle.tool_counts.specs.Counts.{IsCount, IsCount-prop, own_events};
 ghost use Rattle.tests_windows.specs.Calls.{meeting_calls};
 
-use crate::programs::{COUNT_TO_SIX, file_of};
+use crate::programs::{Program, file_of};
 use crate::setting::{BOUNDS, Bounds, NOTHING, host_of, pacer_of, run};
 use arrayvec::ArrayVec;
 use ins_views::Views;
@@ -130,7 +130,7 @@ impl Tool for Meeting {
 #[test]
 fn slices_of_one_window_meet(rt: HostRuntime) -> Result<(), Fail> {
     let alloc = rt.alloc();
-    let file = file_of(alloc, &COUNT_TO_SIX)?;
+    let file = file_of(alloc, Program::CountToSix)?;
     let bounds = Bounds {
         limit: 2,
         poll: 23,

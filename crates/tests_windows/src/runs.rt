@@ -1,9 +1,7 @@
 // Where runs are cut, and their lines. The steps are of the manual's instructions, by hand; so are the cuts, by the rule that
 // a cut is where the pacer grants it, or where since the last one there were so many calls, 4,194,304 bytes that calls stored,
 // or more pages written than all frames but 32.
-use crate::programs::{
-    ADD_TWICE, COUNT_TO_SIX, Program, READ_ALL, WAIT_A_SECOND, WRITE_PAGES, file_of,
-};
+use crate::programs::{Program, file_of};
 use crate::setting::{BOUNDS, Bounds, NOTHING, Outside, host_of, pacer_of, run};
 use ordered_merge::{Finished, SliceLine};
 use rv_machine::End;
@@ -14,12 +12,11 @@ use std::test::Fail;
 use std::thread::Threads;
 use tool_counts::InsCount;
 
-// A program, its outside and bounds, and the answers of its pacer. Where it is cut, and the steps and the calls of each slice;
+// A program, its bounds, and the answers of its pacer. Where it is cut, and the steps and the calls of each slice;
 // how many positions of each slice but the last one pass each test. No position of the last one is tested.
 #[derive(Clone, Copy)]
 struct Row {
     program: Program,
-    outside: Outside,
     bounds: Bounds,
     answers: &'static [bool],
     cuts: &'static [u64],
@@ -28,8 +25,7 @@ struct Row {
 }
 
 const ADDED: Row = Row {
-    program: ADD_TWICE,
-    outside: NOTHING,
+    program: Program::AddTwice,
     bounds: BOUNDS,
     answers: &[false, true],
     cuts: &[2],
@@ -37,13 +33,8 @@ const ADDED: Row = Row {
     hits: [1, 1, 1, 1],
 };
 
-// The clock shows a second at the fourth look.
 const WAITED: Row = Row {
-    program: WAIT_A_SECOND,
-    outside: Outside {
-        moments: &[0, 0, 0, 1_000_000_000],
-        ..NOTHING
-    },
+    program: Program::WaitASecond,
     bounds: Bounds { poll: 25, ..BOUNDS },
     answers: &[true],
     cuts: &[25],
@@ -77,7 +68,7 @@ const ROWS: [Row; 9] = [
     },
     // three positions before the cut pass all but the whole test
     Row {
-        program: COUNT_TO_SIX,
+        program: Program::CountToSix,
         bounds: Bounds { poll: 23, ..BOUNDS },
         answers: &[true],
         cuts: &[23],
@@ -99,11 +90,7 @@ const ROWS: [Row; 9] = [
     },
     // 64 reads of 65,536 bytes make one
     Row {
-        program: READ_ALL,
-        outside: Outside {
-            input: 4_194_314,
-            ..NOTHING
-        },
+        program: Program::ReadAll,
         answers: &[],
         cuts: &[390],
         lines: &[(390, 65), (16, 2)],
@@ -111,7 +98,7 @@ const ROWS: [Row; 9] = [
     },
     // 33 pages make one
     Row {
-        program: WRITE_PAGES,
+        program: Program::WritePages,
         bounds: Bounds {
             frames: 64,
             ..BOUNDS
@@ -122,6 +109,21 @@ const ROWS: [Row; 9] = [
         ..ADDED
     },
 ];
+
+// What a program meets: to one a clock that shows a second at the fourth look, to one an input of 64 times 65,536 bytes and ten.
+fn outside_of(program: Program) -> Outside {
+    match program {
+        Program::WaitASecond => Outside {
+            moments: &[0, 0, 0, 1_000_000_000],
+            ..NOTHING
+        },
+        Program::ReadAll => Outside {
+            input: 4_194_314,
+            ..NOTHING
+        },
+        _ => NOTHING,
+    }
+}
 
 // Whether a line is this.
 fn is_line(line: &SliceLine, steps: u64, calls: u64, hits: [u64; 4]) -> bool {
@@ -164,8 +166,8 @@ fn finished_of<R: Threads + Sync>(
     alloc: Global,
     row: &Row,
 ) -> Result<Finished<InsCount>, Fail> {
-    let file = file_of(alloc, &row.program)?;
-    let mut host = host_of(alloc, &row.outside)?;
+    let file = file_of(alloc, row.program)?;
+    let mut host = host_of(alloc, &outside_of(row.program))?;
     let mut pacer = pacer_of(alloc, row.answers)?;
     let run = run(
         rt,
@@ -179,16 +181,29 @@ fn finished_of<R: Threads + Sync>(
     Ok(run.ok().ok_or("the run has no end")?)
 }
 
-#[test]
-fn cuts_and_lines(rt: HostRuntime) -> Result<(), Fail> {
-    for (k, row) in ROWS.iter().enumerate() {
-        let finished = finished_of(&rt, rt.alloc(), row)?;
-        assert!(rt; finished.cuts.as_slice() == row.cuts, "row {k}");
-        assert!(rt; are_lines(&finished.lines, row), "row {k}");
-        assert!(rt; finished.shared == steps_of(row.lines), "row {k}");
-        assert!(rt; finished.end == End::Exit(7), "row {k}");
+// Whether the run of a row is cut so, and counts each step.
+fn holds<R: Threads + Sync>(rt: &R, alloc: Global, row: &Row) -> Result<bool, Fail> {
+    let finished = finished_of(rt, alloc, row)?;
+    Ok(
+        finished.cuts.as_slice() == row.cuts
+            && are_lines(&finished.lines, row)
+            && finished.shared == steps_of(row.lines)
+            && finished.end == End::Exit(7),
+    )
+}
+
+// Tries these rows.
+fn expect<R: Abort + AllocGlobal + Threads + Sync>(rt: &R, rows: &[Row]) -> Result<(), Fail> {
+    for (k, row) in rows.iter().enumerate() {
+        let holds = holds(rt, rt.alloc(), row)?;
+        assert!(rt; holds, "row {k}");
     }
     Ok(())
+}
+
+#[test]
+fn cuts_and_lines(rt: HostRuntime) -> Result<(), Fail> {
+    expect(&rt, &ROWS)
 }
 
 // Where the counter is cut that asks the pacer once, behind the 23rd of its 45 steps.
@@ -197,7 +212,7 @@ fn cuts_by_time<R: Threads + Sync>(
     alloc: Global,
     pacer: &mut TimePacer,
 ) -> Result<Vec<u64>, Fail> {
-    let file = file_of(alloc, &COUNT_TO_SIX)?;
+    let file = file_of(alloc, Program::CountToSix)?;
     let mut host = host_of(alloc, &NOTHING)?;
     let bounds = Bounds { poll: 23, ..BOUNDS };
     let run = run(rt, alloc, &InsCount, &file, &bounds, &mut host, pacer)?;

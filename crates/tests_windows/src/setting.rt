@@ -12,7 +12,7 @@ use syscall_layer::RunFault;
 use tool_law::{Tool, make_plan};
 use window_run::run_windows;
 
-/// What bounds a run and makes its cuts due.
+// What bounds a run and makes its cuts due.
 #[derive(Clone, Copy)]
 pub struct Bounds {
     pub budget: u64,
@@ -22,7 +22,7 @@ pub struct Bounds {
     pub frames: u32,
 }
 
-/// The pacer is asked after each step, and the other rules are as far off as they can be.
+// The pacer is asked after each step, and the other rules are as far off as they can be.
 pub const BOUNDS: Bounds = Bounds {
     budget: 1_000_000,
     limit: 8,
@@ -31,7 +31,7 @@ pub const BOUNDS: Bounds = Bounds {
     frames: 4_096,
 };
 
-/// The limits, where each is in its range.
+// The limits, where each is in its range.
 pub fn limits_of(bounds: &Bounds) -> Option<Limits> {
     let Bounds {
         budget,
@@ -57,45 +57,46 @@ pub fn limits_of(bounds: &Bounds) -> Option<Limits> {
     None
 }
 
-/// What a program meets. The input is so many zeros.
+// What a program meets.
 #[derive(Clone, Copy)]
 pub struct Outside {
+    // how many zeros can be read
     pub input: usize,
     pub moments: &'static [u64],
-    /// Which reads of the input and which writes to the standard output fail, the first call of each kind with number 1.
-    pub failing_input: &'static [u64],
-    pub failing_out: &'static [u64],
-    /// Whether a call moves only one byte.
+    // which read of the input and which write to the standard output fails; 0 for none
+    pub failing_input: u64,
+    pub failing_out: u64,
+    // whether a call moves only one byte
     pub single: bool,
 }
 
-/// No input, no moments, and no failing calls.
+// No input, no moments, and no failing call.
 pub const NOTHING: Outside = Outside {
     input: 0,
     moments: &[],
-    failing_input: &[],
-    failing_out: &[],
+    failing_input: 0,
+    failing_out: 0,
     single: false,
 };
 
-/// A host in memory with this outside.
+// A host in memory with this outside.
 pub fn host_of(alloc: Global, outside: &Outside) -> Result<MemoryHost, AllocError> {
     let most = if outside.single { 1 } else { 65_536 };
     let mut plan = FaultPlan::new(alloc, most, 65_536);
-    plan.input = outside.failing_input.to_vec(alloc)?;
-    plan.out = outside.failing_out.to_vec(alloc)?;
+    plan.input = [outside.failing_input].to_vec(alloc)?;
+    plan.out = [outside.failing_out].to_vec(alloc)?;
     let mut input = Vec::new(alloc);
     input.resize(outside.input, 0)?;
     let moments = outside.moments.to_vec(alloc)?;
     MemoryHost::new(alloc, Vec::new(alloc), input, moments, plan)
 }
 
-/// A pacer with these answers.
+// A pacer with these answers.
 pub fn pacer_of(alloc: Global, answers: &[bool]) -> Result<ListPacer, AllocError> {
     Ok(ListPacer::new(answers.to_vec(alloc)?))
 }
 
-/// Runs a file by windows, with a tool.
+// Runs a file by windows, with a tool.
 pub fn run<T: Tool, P: Pacer + Send, R: Threads + Sync>(
     rt: &R,
     alloc: Global,

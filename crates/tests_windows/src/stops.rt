@@ -1,8 +1,9 @@
 // What stops a run, with several jobs outstanding: a cut is at each step.
-use crate::programs::{COUNT_TO_SIX, Program, file_of, talk};
+use crate::programs::{Program, file_of, talk};
 use crate::setting::{BOUNDS, Bounds, NOTHING, Outside, host_of, pacer_of, run};
 use sp_host::{EveryPacer, MemoryHost, Pacer, Port};
 use std::alloc::Global;
+use std::process::Abort;
 use std::test::Fail;
 use std::thread::Threads;
 use syscall_layer::RunFault;
@@ -19,7 +20,7 @@ struct Row {
 
 const READ_FAILS: Row = Row {
     outside: Outside {
-        failing_input: &[1],
+        failing_input: 1,
         ..NOTHING
     },
     budget: 1_000_000,
@@ -38,7 +39,7 @@ const ROWS: [Row; 11] = [
     // there is no second read
     Row {
         outside: Outside {
-            failing_input: &[2],
+            failing_input: 2,
             ..NOTHING
         },
         fault: None,
@@ -47,7 +48,7 @@ const ROWS: [Row; 11] = [
     },
     Row {
         outside: Outside {
-            failing_out: &[1],
+            failing_out: 1,
             ..NOTHING
         },
         out: b"",
@@ -55,14 +56,14 @@ const ROWS: [Row; 11] = [
     },
     Row {
         outside: Outside {
-            failing_out: &[3],
+            failing_out: 3,
             ..NOTHING
         },
         ..WRITE_FAILS
     },
     Row {
         outside: Outside {
-            failing_out: &[4],
+            failing_out: 4,
             ..NOTHING
         },
         fault: None,
@@ -72,7 +73,7 @@ const ROWS: [Row; 11] = [
     // by single bytes
     Row {
         outside: Outside {
-            failing_out: &[5],
+            failing_out: 5,
             single: true,
             ..NOTHING
         },
@@ -81,7 +82,7 @@ const ROWS: [Row; 11] = [
     },
     Row {
         outside: Outside {
-            failing_out: &[7],
+            failing_out: 7,
             single: true,
             ..NOTHING
         },
@@ -89,7 +90,7 @@ const ROWS: [Row; 11] = [
     },
     Row {
         outside: Outside {
-            failing_out: &[9],
+            failing_out: 9,
             single: true,
             ..NOTHING
         },
@@ -130,29 +131,38 @@ fn fault_of<P: Pacer + Send, R: Threads + Sync>(
     Ok(run.err())
 }
 
-#[test]
-fn faults_and_what_was_written(rt: HostRuntime) -> Result<(), Fail> {
-    let alloc = rt.alloc();
-    let file = talk(alloc)?;
-    for (k, row) in ROWS.iter().enumerate() {
-        let bounds = Bounds {
-            budget: row.budget,
-            ..BOUNDS
-        };
-        let mut host = host_of(alloc, &row.outside)?;
-        let mut pacer = EveryPacer::new(1);
-        let fault = fault_of(&rt, alloc, &file, &bounds, &mut host, &mut pacer)?;
-        assert!(rt; fault == row.fault, "row {k}");
-        assert!(rt; host.written(Port::Out) == row.out, "row {k}");
+// Whether the talking program is stopped as a row says.
+fn holds<R: Threads + Sync>(rt: &R, alloc: Global, file: &[u8], row: &Row) -> Result<bool, Fail> {
+    let bounds = Bounds {
+        budget: row.budget,
+        ..BOUNDS
+    };
+    let mut host = host_of(alloc, &row.outside)?;
+    let mut pacer = EveryPacer::new(1);
+    let fault = fault_of(rt, alloc, file, &bounds, &mut host, &mut pacer)?;
+    Ok(fault == row.fault && host.written(Port::Out) == row.out)
+}
+
+// Tries these rows.
+fn expect<R: Abort + AllocGlobal + Threads + Sync>(rt: &R, rows: &[Row]) -> Result<(), Fail> {
+    let file = talk(rt.alloc())?;
+    for (k, row) in rows.iter().enumerate() {
+        let holds = holds(rt, rt.alloc(), &file, row)?;
+        assert!(rt; holds, "row {k}");
     }
     Ok(())
+}
+
+#[test]
+fn faults_and_what_was_written(rt: HostRuntime) -> Result<(), Fail> {
+    expect(&rt, &ROWS)
 }
 
 // The budget is spent in the second slice.
 #[test]
 fn budget_spent_behind_a_cut(rt: HostRuntime) -> Result<(), Fail> {
     let alloc = rt.alloc();
-    let file = file_of(alloc, &COUNT_TO_SIX)?;
+    let file = file_of(alloc, Program::CountToSix)?;
     let bounds = Bounds {
         budget: 30,
         poll: 23,
@@ -165,19 +175,11 @@ fn budget_spent_behind_a_cut(rt: HostRuntime) -> Result<(), Fail> {
     Ok(())
 }
 
-// `hello`, and then a call with the number 1, to which the run comes behind a cut.
-const HELLO_AND_MORE: Program = Program {
-    data: false,
-    code: &[
-        0x04000893, 0x00100513, 0x000105b7, 0x07858593, 0x00600613, 0x00000073, 0x00100893,
-        0x00000513, 0x00000073, 0x6c6c6568, 0x00000a6f,
-    ],
-};
-
+// The call comes behind a cut.
 #[test]
 fn a_call_without_a_row(rt: HostRuntime) -> Result<(), Fail> {
     let alloc = rt.alloc();
-    let file = file_of(alloc, &HELLO_AND_MORE)?;
+    let file = file_of(alloc, Program::HelloAndMore)?;
     let mut host = host_of(alloc, &NOTHING)?;
     let mut pacer = EveryPacer::new(1);
     let fault = fault_of(&rt, alloc, &file, &BOUNDS, &mut host, &mut pacer)?;
