@@ -12,7 +12,8 @@
 #     plain      the plain interpreter of interpreter.rs, which reads each word anew
 #     fast       the fast one of fast.rs, whose code is decoded once
 #
-# and then superpin / plain, run / fast and step / fast. Then each tool has a line for each guest: the steps a second of `superpin run
+# and then superpin / plain, run / fast and step / fast. Then each guest has a line for the master of a run by windows with all
+# defaults, which makes the cuts and drops the jobs (`guest_bench master`): its steps a second, and the same / run. Then each tool has a line for each guest: the steps a second of `superpin run
 # --by serial --tool NAME`, and the same / run. Runs by windows, which take longer programs, are measured by windows.sh. The
 # programs in out/ are run as they stand: `rt ci guest_bench superpin` makes them. Needs rustc, awk and bash, whose `times`
 # counts thousandths of a second.
@@ -101,6 +102,19 @@ for guest in $guests; do
             printf " %15.2f %10.2f %11.2f\n", best[1] / best[4], best[2] / best[5], best[3] / best[5]
         }
     ' "$file.1" "$file.2" "$file.3" "$file.4" "$file.5"
+done
+
+printf '\n%-10s %10s %11s\n' guest master master/run
+for guest in $guests; do
+    read -r known _ <"$folder/$guest.2"
+    for ((turn = 0; turn < turns; turn++)); do
+        measure "$guest.master" "$guest_bench" master "$folder/$guest"
+    done
+    awk -v guest="$guest" '
+        FNR == 1 { file++ }
+        $2 > best[file] { best[file] = $2 }
+        END { printf "%-10s %10.1f %11.2f\n", guest, best[1] / 1e6, best[1] / best[2] }
+    ' "$folder/$guest.master" "$folder/$guest.2"
 done
 
 printf '\n%-8s %-10s %10s %9s\n' tool guest superpin tool/run

@@ -1,15 +1,18 @@
 //! Runs a program without a tool, to measure how fast a guest goes: `guest_bench run FILE` by stretches of steps,
-//! `guest_bench step FILE` step by step. Writes `icount N` to the standard error, where N is the number of steps. Without words
-//! nothing is done.
+//! `guest_bench step FILE` step by step. Writes `icount N` to the standard error, where N is the number of steps. And `guest_bench
+//! master FILE` runs it as the master of a run by windows does, with all defaults, and drops the jobs that it makes: that writes
+//! `cuts N`. Without words nothing is done.
 #![tactic(auto)]
 
 ghost use Rattle.std.specs.Prelude.{◌≡◌, ◌≤◌, IfSome};
+ghost use Rattle.guest_mem.specs.Frames.{free_frames};
 ghost use Rattle.guest_model.specs.Effect.{Effect, effect_of};
 
 use elf_load::load;
 use guest_model::platform::MOST_PAGES;
+use master_run::{Limits, Master, Turn};
 use rv_machine::{Guest, Stepped};
-use sp_host::{Host, Port, StdHost, read_whole, write_whole};
+use sp_host::{Host, Pacer, Port, StdHost, TimePacer, read_whole, write_whole};
 use std::alloc::{AllocError, Global};
 use std::process::ExitCode;
 use syscall_layer::{Served, serve};
@@ -73,18 +76,60 @@ fn by_steps<H: Host>(alloc: Global, host: &mut H, guest: &mut Guest) -> u64
     MOST
 }
 
-/// The guest of a program file.
-fn guest_of<H: Host>(alloc: Global, host: &mut H, file: &str) -> Option<Guest>
-    ensures { IfSome result (λ guest. guest.frames.count ≡ MOST_PAGES) }
+/// What bounds the run of a master where nothing else is asked for, but that it may make more steps.
+const USUAL: Limits = Limits {
+    budget: 1_099_511_627_776,
+    limit: 8,
+    poll: 64,
+    records: 1_024,
+    frames: 4_096,
+};
+
+/// Runs the guest as a master, and answers how often the run was cut.
+fn by_master<H: Host, P: Pacer>(alloc: Global, host: &mut H, pacer: &mut P, guest: Guest) -> usize
+    requires { guest.frames ≡ free_frames 4096 }
+{
+    let Ok(mut master) = Master::launch(alloc, guest, &USUAL) else {
+        return 0;
+    };
+    for _job in 0..MOST {
+        match master.next_job(host, pacer) {
+            Ok(Turn::Job(_)) => {}
+            Ok(Turn::Last(_, _)) => return master.cuts().len(),
+            Err(_) => return 0,
+        }
+    }
+    0
+}
+
+/// The guest of a program file, with so many frames.
+fn guest_of<H: Host>(alloc: Global, host: &mut H, file: &str, frames: u32) -> Option<Guest>
+    ensures { IfSome result (λ guest. guest.frames ≡ free_frames frames) }
 {
     let bytes = read_whole(alloc, host, file).ok()?;
     let image = load(alloc, &bytes).ok()?;
-    Guest::load(alloc, &image, &[], MOST_PAGES).ok()
+    Guest::load(alloc, &image, &[], frames).ok()
+}
+
+/// Runs a file as a master does, and writes how often the run was cut.
+fn measure_master<H: Host, P: Pacer>(
+    alloc: Global,
+    host: &mut H,
+    pacer: &mut P,
+    file: &str,
+) -> Result<(), AllocError> {
+    let Some(guest) = guest_of(alloc, host, file, 4_096) else {
+        return Ok(());
+    };
+    let cuts = by_master(alloc, host, pacer, guest);
+    let line = format!(in alloc; "cuts {cuts}\n")?;
+    let _written = write_whole(host, Port::Report, line.as_bytes());
+    Ok(())
 }
 
 /// Runs a file so, and writes how many steps were made.
 fn measure<H: Host>(alloc: Global, host: &mut H, way: &str, file: &str) -> Result<(), AllocError> {
-    let Some(mut guest) = guest_of(alloc, host, file) else {
+    let Some(mut guest) = guest_of(alloc, host, file, MOST_PAGES) else {
         return Ok(());
     };
     let steps = match way {
@@ -104,7 +149,12 @@ fn main(rt: HostRuntime) -> ExitCode {
     let mut host = StdHost::new(rt);
     let mut words = words.skip(1);
     if let (Some(way), Some(file)) = (words.next(), words.next()) {
-        let _measured = measure(alloc, &mut host, &way, &file);
+        let mut pacer = TimePacer::new(rt);
+        pacer.period(50);
+        let _measured = match way.as_str() {
+            "master" => measure_master(alloc, &mut host, &mut pacer, &file),
+            _ => measure(alloc, &mut host, &way, &file),
+        };
     }
     ExitCode::SUCCESS
 }
