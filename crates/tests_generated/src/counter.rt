@@ -81,8 +81,16 @@ fn words_are_counted(rt: HostRuntime) -> Result<(), Fail> {
     for (k, row) in ROWS.iter().enumerate() {
         let serial = ["run", "--by", "serial", "f"];
         let left = run(&rt, alloc, &serial, input(alloc, row.lines, row.word)?)?;
-        assert!(rt; left.status == 0 && left.out.as_slice() == row.out.as_bytes(), "row {k}");
-        let windows = run(&rt, alloc, &["run", "f"], input(alloc, row.lines, row.word)?)?;
+        assert!(rt;
+            left.status == 0 && left.out.as_slice() == row.out.as_bytes(),
+            "row {k}"
+        );
+        let windows = run(
+            &rt,
+            alloc,
+            &["run", "f"],
+            input(alloc, row.lines, row.word)?,
+        )?;
         assert!(rt; windows.status == 0 && windows.out == left.out, "row {k}");
         assert!(rt; windows.report == left.report, "row {k}");
     }
@@ -97,9 +105,18 @@ fn each_tool_reports_the_same(rt: HostRuntime) -> Result<(), Fail> {
     for tool in TOOLS {
         let serial = ["run", "--by", "serial", "--tool", tool, "f"];
         let one = run(&rt, alloc, &serial, input(alloc, 400, "xy")?)?;
-        let windows = run(&rt, alloc, &["run", "--tool", tool, "f"], input(alloc, 400, "xy")?)?;
+        let windows = run(
+            &rt,
+            alloc,
+            &["run", "--tool", tool, "f"],
+            input(alloc, 400, "xy")?,
+        )?;
         assert!(rt; one.status == 0 && windows.status == 0, "{}", tool);
-        assert!(rt; windows.out == one.out && windows.report == one.report, "{}", tool);
+        assert!(rt;
+            windows.out == one.out && windows.report == one.report,
+            "{}",
+            tool
+        );
     }
     Ok(())
 }

@@ -101,7 +101,13 @@ fn program(alloc: Global, row: &Row) -> Result<Vec<u8>, AllocError> {
 }
 
 // Whether the tool of this name reports this.
-fn reports<R: Threads + Sync>(rt: &R, alloc: Global, row: &Row, tool: &str, text: &str) -> Result<bool, Fail> {
+fn reports<R: Threads + Sync>(
+    rt: &R,
+    alloc: Global,
+    row: &Row,
+    tool: &str,
+    text: &str,
+) -> Result<bool, Fail> {
     let words = ["run", "--tool", tool, "--by", "serial", "f"];
     let done = run(
         rt,

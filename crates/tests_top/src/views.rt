@@ -75,7 +75,16 @@ fn leaves<R: Threads + Sync>(
 fn code_is_shown(rt: HostRuntime) -> Result<(), Fail> {
     let alloc = rt.alloc();
     let one = outside_of(alloc, one_segment(alloc, &EXIT_7)?, 65_536);
-    assert!(rt; leaves(&rt, alloc, one, Wanted::Status(0), EXIT_7_TEXT.as_bytes(), "")?);
+    assert!(rt;
+        leaves(
+            &rt,
+            alloc,
+            one,
+            Wanted::Status(0),
+            EXIT_7_TEXT.as_bytes(),
+            ""
+        )?
+    );
     let two = outside_of(alloc, bytes_of(alloc, &TWO_OF_CODE)?, 65_536);
     assert!(rt;
         leaves(
@@ -95,7 +104,16 @@ fn view_is_refused(rt: HostRuntime) -> Result<(), Fail> {
     let alloc = rt.alloc();
     let script = outside_of(alloc, b"#!/bin/sh\n".to_vec(alloc)?, 65_536);
     let short = Wanted::Refusal(Refusal::Elf(ElfFault::TooShort));
-    assert!(rt; leaves(&rt, alloc, script, short, b"", "superpin: 4 elf 1 TooShort\n")?);
+    assert!(rt;
+        leaves(
+            &rt,
+            alloc,
+            script,
+            short,
+            b"",
+            "superpin: 4 elf 1 TooShort\n"
+        )?
+    );
     let mut unread = outside_of(alloc, one_segment(alloc, &EXIT_7)?, 65_536);
     unread.plan.file.push(1)?;
     let fault = Wanted::Refusal(Refusal::FileFault);
@@ -117,7 +135,16 @@ fn a_write_fails(rt: HostRuntime) -> Result<(), Fail> {
     let alloc = rt.alloc();
     let fault = Wanted::Refusal(Refusal::OutputFault { port: Port::Out });
     let third = with_failing_write(alloc, 3)?;
-    assert!(rt; leaves(&rt, alloc, third, fault, b"0x", "superpin: 9 output fault Out\n")?);
+    assert!(rt;
+        leaves(
+            &rt,
+            alloc,
+            third,
+            fault,
+            b"0x",
+            "superpin: 9 output fault Out\n"
+        )?
+    );
     let last = with_failing_write(alloc, 95)?;
     let all_but_one = &EXIT_7_TEXT.as_bytes()[..94];
     assert!(rt;
@@ -131,6 +158,15 @@ fn a_write_fails(rt: HostRuntime) -> Result<(), Fail> {
         )?
     );
     let after = with_failing_write(alloc, 96)?;
-    assert!(rt; leaves(&rt, alloc, after, Wanted::Status(0), EXIT_7_TEXT.as_bytes(), "")?);
+    assert!(rt;
+        leaves(
+            &rt,
+            alloc,
+            after,
+            Wanted::Status(0),
+            EXIT_7_TEXT.as_bytes(),
+            ""
+        )?
+    );
     Ok(())
 }

@@ -1,7 +1,5 @@
 // Runs by windows, which is the usual way. Each count is of the manual's instructions by hand, as the positions of cuts are.
-use crate::outside::{
-    HELLO, Wanted, are, has_no_line, is_cut, is_refused, outside_of, run_paced,
-};
+use crate::outside::{HELLO, Wanted, are, has_no_line, is_cut, is_refused, outside_of, run_paced};
 use sample_files::{one_segment, two_segments};
 use sp_host::Port;
 use std::alloc::{AllocError, Global};
@@ -181,9 +179,7 @@ fn holds<R: Threads + Sync>(rt: &R, alloc: Global, row: &Row) -> Result<bool, Fa
     outside.moments = [0, 0, 0, 1_000_000_000].to_vec(alloc)?;
     outside.plan.out = row.failing.to_vec(alloc)?;
     let done = run_paced(rt, alloc, row.words, outside, row.pacer)?;
-    Ok(is_answered(&done.answer, row)
-        && are(&done.out, row.out)
-        && are(&done.report, row.report))
+    Ok(is_answered(&done.answer, row) && are(&done.out, row.out) && are(&done.report, row.report))
 }
 
 #[test]

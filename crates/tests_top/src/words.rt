@@ -97,7 +97,10 @@ fn other_words_are_refused(rt: HostRuntime) -> Result<(), Fail> {
             row.words,
             outside_of(alloc, one_segment(alloc, &EXIT_7)?, 65_536),
         )?;
-        assert!(rt; is_refused(&done.answer, Refusal::Usage(row.kind)), "row {k}");
+        assert!(rt;
+            is_refused(&done.answer, Refusal::Usage(row.kind)),
+            "row {k}"
+        );
         assert!(rt; are(&done.report, row.report), "row {k}");
     }
     Ok(())
@@ -111,7 +114,13 @@ fn words_are_answered(rt: HostRuntime) -> Result<(), Fail> {
         alloc,
         outside_of(alloc, one_segment(alloc, &EXIT_7)?, 65_536),
     )?;
-    let status = answer_words(&rt, alloc, Ok(owned(alloc, &SERIAL)?), &mut host, &mut pacer);
+    let status = answer_words(
+        &rt,
+        alloc,
+        Ok(owned(alloc, &SERIAL)?),
+        &mut host,
+        &mut pacer,
+    );
     assert!(rt; status == 7);
     assert!(rt; are(host.written(Port::Report), b"icount 3\nend exit 7\n"));
     let mut host = host_of(alloc, outside_of(alloc, Vec::new(alloc), 65_536))?;
