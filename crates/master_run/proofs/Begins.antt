@@ -1,6 +1,6 @@
 -- A run before its first step, and what of it does not depend on the master's standing.
-use Rattle.std.proofs.Common.{◌≡◌, ℕ, ◌+◌, ◌/◌, ◌≤◌, Bool, false, [], refl, sym, ap, subst, arith}
-use Rattle.std.specs.Prelude.{Option, None, Some, Result, Ok, Err}
+use Rattle.std.proofs.Common.{◌≡◌, ℕ, ◌+◌, ◌-◌, ◌/◌, ◌≤◌, Bool, false, [], refl, sym, ap, subst, arith}
+use Rattle.std.specs.Prelude.{Option, None, Some, Result, Ok, Err, IfOk}
 use Rattle.std.specs.Option.{option_map}
 use Rattle.sp_host.specs.Told.{Told}
 use Rattle.guest_model.specs.Call.{World}
@@ -12,7 +12,7 @@ use Rattle.syscall_layer.specs.Serve.{told_after}
 use Rattle.boundary_verify.specs.Cuts.{granted_among}
 use Rattle.master_run.specs.Answers.{HasAnswered, PacerState}
 use Rattle.master_run.specs.Master.{HasRunTo, MasterState, Standing, start_at}
-use Rattle.master_run.specs.Turn.{HandsOutOfRun}
+use Rattle.master_run.specs.Turn.{HandsOut, HandsOutOfRun, IsMetWithin}
 use Rattle.master_run.specs.declared.limits.Limits.{Limits}
 use Rattle.master_run.specs.declared.master.Turn.{Turn}
 use Rattle.master_run.specs.declared.master.Turn.TheVariants as turns
@@ -74,3 +74,12 @@ hands_free t p first old s (Err (faults.BudgetSpent n)) new told now h = h
 hands_free t p first old s (Err faults.InputFault) new told now h = h
 hands_free t p first old s (Err (faults.OutputFault port)) new told now h = h
 hands_free t p first old s (Err faults.NoMemory) new told now h = h
+
+-- a job that ends at a cut meets its boundary there
+met_within : (old new : MasterState) (turn : Turn) → HandsOut old turn new → IsMetWithin (new.position - old.position) turn
+met_within old new (turns.Job job) h = λ s exact. exact.least (new.position - old.position) h.starts.lasts.begun h.starts.lasts.met
+met_within old new (turns.Last job end) h = unit
+
+pub met_soon : (old new : MasterState) (r : Result Turn RunFault) → IfOk r (λ turn. HandsOut old turn new) → IfOk r (IsMetWithin (new.position - old.position))
+met_soon old new (Ok turn) h = met_within old new turn h
+met_soon old new (Err fault) h = unit

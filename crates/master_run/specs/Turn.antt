@@ -13,7 +13,7 @@ use Rattle.syscall_layer.specs.declared.fault.RunFault.{RunFault}
 use Rattle.syscall_layer.specs.declared.fault.RunFault.TheVariants as faults
 use Rattle.boundary_verify.specs.Cuts.{AreCuts}
 use Rattle.boundary_verify.specs.Job.{JobFields, Lasts, boundary_of, path_of}
-use Rattle.boundary_verify.specs.Path.{At, AtEnd, last_path, path_between}
+use Rattle.boundary_verify.specs.Path.{At, AtEnd, IsMatch, last_path, path_between}
 use Rattle.master_run.specs.Answers.{HasAnswered, PacerState}
 use Rattle.master_run.specs.Master.{HasRunTo, MasterState, Over, Ready, limits_of}
 use Rattle.master_run.specs.declared.master.Turn.{Turn}
@@ -49,6 +49,11 @@ pub record EndsWithRun (old : MasterState) (job : JobFields) (new : MasterState)
 abbrev pub HandsOut : MasterState → Turn → MasterState → Type 0
 HandsOut old (Job job) new = EndsAtCut old job new
 HandsOut old (Last job end) new = EndsWithRun old job new
+
+-- the match of a job that ends at a cut is at most so many steps, also in a run that never ends
+abbrev pub IsMetWithin : ℕ → Turn → Type 0
+IsMetWithin distance (Job job) = (s : ℕ) → IsMatch (path_of job) s → s ≤ distance
+IsMetWithin distance (Last job end) = Unit {0}
 
 -- the pacer was asked up to the master's position, and no cut is missing up to there
 pub record HasAllCuts (p : Position) (first : PacerState) (new : MasterState) (now : PacerState) : Type 0 where

@@ -1,5 +1,5 @@
 // The run of a program without a tool, and the jobs that it hands out.
-ghost use Rattle.std.specs.Prelude.{◌≡◌, ◌≢◌, ◌<◌, ◌≤◌, [], IfErr, IfOk, length};
+ghost use Rattle.std.specs.Prelude.{◌≡◌, ◌≢◌, ◌-◌, ◌<◌, ◌≤◌, [], IfErr, IfOk, length};
 ghost use Rattle.sp_host.specs.Faults.{CausedIn};
 ghost use Rattle.sp_host.specs.Told.{Told};
 ghost use Rattle.guest_model.specs.Call.{World};
@@ -10,7 +10,7 @@ ghost use Rattle.syscall_layer.specs.Step.{IsOfGuest, run_source_of};
 ghost use Rattle.syscall_layer.specs.declared.fault.RunFault.{RunFault};
 ghost use Rattle.master_run.specs.Answers.{PacerState};
 ghost use Rattle.master_run.specs.Master.{HasRunTo, MasterState, Standing, start_at};
-ghost use Rattle.master_run.specs.Turn.{HandsOut, HandsOutOfRun};
+ghost use Rattle.master_run.specs.Turn.{HandsOut, HandsOutOfRun, IsMetWithin};
 
 use crate::limits::Limits;
 use crate::progress::Progress;
@@ -119,6 +119,7 @@ impl Master {
 
         // Whatever host and pacer are: what is handed out, the cause of each fault, and that it comes again.
         ensures turn { IfOk result (λ turn. HandsOut self.old turn self.new) }
+        ensures soon { IfOk result (IsMetWithin (self.new.position - self.old.position)) }
         ensures limits { self.new.limits ≡ self.old.limits }
         ensures refused { IfErr result (λ fault. self.new.standing ≡ Standing.Refused fault) }
         ensures again { (fault : RunFault) → self.old.standing ≡ Standing.Refused fault →

@@ -1,6 +1,6 @@
 use Rattle.std.proofs.Common.{subst, sym}
 use Rattle.sp_host.specs.Told.{Told}
-use Rattle.master_run.proofs.Begins.{hands_free, standing_free}
+use Rattle.master_run.proofs.Begins.{hands_free, met_soon, standing_free}
 use Rattle.master_run.specs.Answers.{PacerState}
 use Rattle.master_run.specs.Inside.{seen_of}
 use Rattle.master_run.specs.Master.{MasterState, HasRunTo, Over}
@@ -19,3 +19,9 @@ returns-in-Ready-clause-told g c t p first ready h =
     let hands = c.make_turn-stage.ensures.told t p first (standing_free t p first m Over told now stands) in
     subst (λ (k : MasterState). HandsOutOfRun t p first k c.make_turn-stage.result.1 later told_now shown) c.self.view_is
     (hands_free t p first m Over c.make_turn-stage.result.1 later told_now shown hands)
+
+pub returns-in-Ready-clause-soon : goal.returns-in-Ready-clause-soon
+returns-in-Ready-clause-soon g c =
+    let old : MasterState = seen_of c.self.inside.limits c.self.inside.progress c.self.inside.cuts.items Over in
+    let later : MasterState = seen_of c.self.inside.limits c.make_turn-stage.new.progress c.make_turn-stage.new.cuts.items c.make_turn-stage.result.0 in
+    ?
