@@ -22,7 +22,7 @@ use Rattle.sp_report.specs.declared.answer.Refusal.{Refusal}
 use Rattle.sp_report.specs.declared.answer.Refusal.TheVariants as refusals
 use Rattle.syscall_layer.specs.declared.fault.RunFault.{RunFault}
 use Rattle.syscall_layer.specs.declared.fault.RunFault.TheVariants as faults
-use Rattle.window_run.specs.Windows.{WindowsEnd, WindowsFail, line_by}
+use Rattle.sliced_run.specs.Sliced.{SlicedEnd, SlicedFail, line_by}
 use Rattle.demo_run.specs.Demo.{DemoGives, IsDemoText, RunRefused, all_lines, bcount_line, demo_answers, demo_limits, demo_run, demo_strings, icount_line, no_world}
 use Rattle.demo_run.specs.Parts.{AreUsual, HasNoSource, IsCutRun, ThreeGive, refusal_by}
 use Rattle.demo_run.specs.declared.demo.Three.{Three}
@@ -43,7 +43,7 @@ fails grows t new image faults.InputFault none gives = cc
 fails grows t new image (faults.OutputFault port) none gives = cc
 fails grows t new image faults.NoMemory none gives = tt
 
-pub windows_fail : (t new : Told) (image : ImageFields) (fault : RunFault) → HasNoSource fault → WindowsFail t (demo_run image) fault new → RunRefused image (refusal_by fault)
+pub windows_fail : (t new : Told) (image : ImageFields) (fault : RunFault) → HasNoSource fault → SlicedFail t (demo_run image) fault new → RunRefused image (refusal_by fault)
 windows_fail t new image (faults.Unsupported number pc) none gives = fails false t new image (faults.Unsupported number pc) none gives
 windows_fail t new image (faults.BudgetSpent n) none gives = fails false t new image (faults.BudgetSpent n) none gives
 windows_fail t new image faults.InputFault none gives = cc
@@ -59,7 +59,7 @@ usual_limits limits h =
 
 -- where a run by windows was cut, and its lines
 pub cut_run : {T L S : Type 0} (is_value : List TraceItem → S → Type 0) (t new : Told) (limits : Limits) (image : ImageFields) (first now : PacerState) (f : Finished T L S) → AreUsual limits → first.answers ≡ Some demo_answers
-    → WindowsEnd is_value t limits (demo_run image) first f new now → IsCutRun image f.end f.cuts.items f.lines.items
+    → SlicedEnd is_value t limits (demo_run image) first f new now → IsCutRun image f.end f.cuts.items f.lines.items
 cut_run is_value t new limits image first now f usual answers h =
     let start = (demo_run image).start in
     let cuts : AreCuts demo_limits h.answers start h.steps f.cuts.items = subst (λ (l : CutLimits). AreCuts l h.answers start h.steps f.cuts.items) (usual_limits limits usual) h.cuts in

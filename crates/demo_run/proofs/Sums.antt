@@ -5,7 +5,7 @@ use Rattle.std.proofs.lemmas.List.Folds.{fold-map}
 use Rattle.guest_model.specs.Tests.{HitCounts}
 use Rattle.ordered_merge.specs.declared.merger.SliceLine.{SliceLine}
 use Rattle.slice_runner.specs.Piece.{counts_of}
-use Rattle.window_run.specs.Windows.{line_by}
+use Rattle.sliced_run.specs.Sliced.{line_by}
 use Rattle.demo_run.specs.Demo.{sum_of_hits}
 
 pub hits_of_lines : (count : HitCounts → ℕ) (lines : List SliceLine) → sum_by (λ line. count (counts_of line.hits)) lines ≡ sum_of_hits count (map line_by lines)

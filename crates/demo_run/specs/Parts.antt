@@ -19,7 +19,7 @@ use Rattle.sp_report.specs.declared.answer.Refusal.TheVariants as refusals
 use Rattle.syscall_layer.specs.Step.{run_source_of}
 use Rattle.syscall_layer.specs.declared.fault.RunFault.{RunFault}
 use Rattle.syscall_layer.specs.declared.fault.RunFault.TheVariants as faults
-use Rattle.window_run.specs.Windows.{line_by}
+use Rattle.sliced_run.specs.Sliced.{line_by}
 
 -- the image of a file, or its first fault
 abbrev pub ImageGives : List ℕ → Result ImageFields Refusal → Type 0

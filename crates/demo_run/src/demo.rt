@@ -3,7 +3,7 @@ ghost use Rattle.std.specs.Prelude.{◌≡◌, IfOk, map};
 ghost use Rattle.demo_run.specs.Demo.{DemoGives, all_lines};
 ghost use Rattle.demo_run.specs.Parts.{ThreeGive};
 ghost use Rattle.sp_report.specs.Lines.{end_by};
-ghost use Rattle.window_run.specs.Windows.{line_by};
+ghost use Rattle.sliced_run.specs.Sliced.{line_by};
 
 use crate::program::image_of;
 use crate::runs::{Cut, both};

@@ -1,7 +1,7 @@
 // The lines that are printed.
 ghost use Rattle.std.specs.Prelude.{◌≡◌, ◌++◌, OnOk, map};
 ghost use Rattle.demo_run.specs.Demo.{cuts_line, file_line, matches_line, spaced, sums_line};
-ghost use Rattle.window_run.specs.Windows.{line_by};
+ghost use Rattle.sliced_run.specs.Sliced.{line_by};
 
 use crate::hits::{Sums, sums_of};
 use ordered_merge::SliceLine;

@@ -78,8 +78,8 @@ hands_free t p first old s (Err faults.NoMemory) new told now h = h
 -- a job that ends at a cut meets its boundary there
 met_within : (old new : MasterState) (turn : Turn) → HandsOut old turn new → IsMetWithin (new.position - old.position) turn
 met_within old new (turns.Job job) h = λ s exact. exact.least (new.position - old.position) h.starts.lasts.begun h.starts.lasts.met
-met_within old new (turns.Last job end) h = unit
+met_within old new (turns.Last job end) h = tt
 
 pub met_soon : (old new : MasterState) (r : Result Turn RunFault) → IfOk r (λ turn. HandsOut old turn new) → IfOk r (IsMetWithin (new.position - old.position))
 met_soon old new (Ok turn) h = met_within old new turn h
-met_soon old new (Err fault) h = unit
+met_soon old new (Err fault) h = tt

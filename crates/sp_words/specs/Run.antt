@@ -7,7 +7,7 @@ use Rattle.master_run.specs.Answers.{HasAnswered, PacerState}
 use Rattle.ordered_merge.specs.declared.merger.SliceLine.{SliceLine}
 use Rattle.serial_run.specs.Run.{whole_line}
 use Rattle.serial_run.specs.Start.{Run as Steps}
-use Rattle.window_run.specs.Windows.{line_by}
+use Rattle.sliced_run.specs.Sliced.{line_by}
 use Rattle.sp_words.specs.declared.asked.By.{By}
 use Rattle.sp_words.specs.declared.asked.By.TheVariants.{Serial, Windows}
 

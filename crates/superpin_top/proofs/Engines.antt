@@ -15,7 +15,7 @@ use Rattle.sp_words.specs.Run.{IsSliced, IsSlicedBy, Run, ToolMeaning, slicing_o
 use Rattle.sp_words.specs.declared.asked.By.{By}
 use Rattle.sp_words.specs.declared.asked.By.TheVariants.{Serial, Windows}
 use Rattle.syscall_layer.specs.declared.fault.RunFault.{RunFault}
-use Rattle.window_run.specs.Windows.{WindowsEnd, WindowsGive}
+use Rattle.sliced_run.specs.Sliced.{SlicedEnd, SlicedGives}
 use Rattle.superpin_top.specs.Engine.{EngineEnds, EngineFails, EngineGives, engine_by, run_from, sliced_by}
 use Rattle.superpin_top.specs.declared.engine.How.{How}
 
@@ -42,7 +42,7 @@ serial_gives is_value t r first (Err fault) new by gives uncut = subst (λ (b : 
 
 -- a run by windows
 windows_ends : {T L S : Type 0} (is_value : List TraceItem → S → Type 0) (t : Told) (m : Machine) (tool : ToolMeaning) (how : How) (w : World) (first middle now : PacerState) (f : Finished T L S) (new : Told) → how.by ≡ Windows
-    → middle ≡ record first { period = how.msec } → WindowsEnd is_value t how.limits (steps_of (run_from m tool (engine_by how) w)) middle f new now → EngineEnds is_value t (run_from m tool (engine_by how) w) first f new now
+    → middle ≡ record first { period = how.msec } → SlicedEnd is_value t how.limits (steps_of (run_from m tool (engine_by how) w)) middle f new now → EngineEnds is_value t (run_from m tool (engine_by how) w) first f new now
 windows_ends is_value t m tool how w first middle now f new by paced gives =
     let r = run_from m tool (engine_by how) w in
     let sliced : IsSliced r first now (sliced_by f) = record {
@@ -64,7 +64,7 @@ windows_ends is_value t m tool how w first middle now f new by paced gives =
     }
 
 pub windows_gives : {T L S : Type 0} (is_value : List TraceItem → S → Type 0) (t : Told) (m : Machine) (tool : ToolMeaning) (how : How) (w : World) (first middle now : PacerState) (result : Result (Finished T L S) RunFault) (new : Told)
-    → how.by ≡ Windows → middle ≡ record first { period = how.msec } → WindowsGive is_value t how.limits (steps_of (run_from m tool (engine_by how) w)) middle result new now
+    → how.by ≡ Windows → middle ≡ record first { period = how.msec } → SlicedGives is_value t how.limits (steps_of (run_from m tool (engine_by how) w)) middle result new now
     → EngineGives is_value t (run_from m tool (engine_by how) w) first result new now
 windows_gives is_value t m tool how w first middle now (Ok f) new by paced gives = windows_ends is_value t m tool how w first middle now f new by paced gives
 windows_gives is_value t m tool how w first middle now (Err fault) new by paced gives =

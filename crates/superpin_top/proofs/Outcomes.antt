@@ -22,7 +22,7 @@ use Rattle.sp_report.specs.declared.answer.Refusal.{Refusal}
 use Rattle.sp_report.specs.declared.answer.Refusal.TheVariants as refusals
 use Rattle.master_run.specs.Answers.{PacerState}
 use Rattle.serial_run.specs.Run.{EndsAt, RunLacks}
-use Rattle.window_run.specs.Windows.{WindowsFail}
+use Rattle.sliced_run.specs.Sliced.{SlicedFail}
 use Rattle.sp_words.specs.Due.{Due, Program, delivered, due_refused, due_run, due_state, report_of, run_of_program}
 use Rattle.sp_words.specs.Run.{IsSlicedBy, Run, Slicing, slicing_of, steps_of}
 use Rattle.sp_words.specs.declared.asked.By.{By}
@@ -139,7 +139,7 @@ serial_lacks t new p w first now by input moments (inl told) = inl (told ∙ sym
 serial_lacks t new p w first now by input moments (inr (inl step)) = inr (inl (p, refl, subst (λ (b : By). WantsWithin b (run_of_program p w) t new) (sym by) step))
 serial_lacks t new p w first now by input moments (inr (inr (last, end, ended))) = ended_lacks t new p w first now last end ended
 
-windows_lacks : (t new : Told) (p : Program) (w : World) (first now : PacerState) → p.engine.by ≡ Windows → WindowsFail t (steps_of (run_of_program p w)) faults.NoMemory new → Refuses t (Ok (Runs p)) w first refusals.NoMemory new now
+windows_lacks : (t new : Told) (p : Program) (w : World) (first now : PacerState) → p.engine.by ≡ Windows → SlicedFail t (steps_of (run_of_program p w)) faults.NoMemory new → Refuses t (Ok (Runs p)) w first refusals.NoMemory new now
 windows_lacks t new p w first now by (inl between) = inr (inl (p, refl, subst (λ (b : By). WantsWithin b (run_of_program p w) t new) (sym by) between))
 windows_lacks t new p w first now by (inr (last, end, ended)) = ended_lacks t new p w first now last end ended
 

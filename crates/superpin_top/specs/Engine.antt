@@ -18,7 +18,7 @@ use Rattle.sp_words.specs.declared.asked.By.{By}
 use Rattle.sp_words.specs.declared.asked.By.TheVariants.{Serial, Windows}
 use Rattle.superpin_top.specs.declared.engine.How.{How}
 use Rattle.syscall_layer.specs.declared.fault.RunFault.{RunFault}
-use Rattle.window_run.specs.Windows.{StandsBetween, WindowsFail}
+use Rattle.sliced_run.specs.Sliced.{StandsBetween, SlicedFail}
 
 -- how a run is made, over plain data
 abbrev pub engine_by : How → Engine
@@ -42,7 +42,7 @@ WantsWithin Windows r t new = StandsBetween t (steps_of r) new
 -- a run that did not come to an end
 abbrev pub EngineFails : By → Run → Told → RunFault → Told → Type 0
 EngineFails Serial r t fault new = RunFails r.tool.grows t (steps_of r) fault new
-EngineFails Windows r t fault new = WindowsFail t (steps_of r) fault new
+EngineFails Windows r t fault new = SlicedFail t (steps_of r) fault new
 
 -- what an engine that came to the end of a run tells of its slices
 abbrev pub sliced_by : {T L S : Type 0} → Finished T L S → Slicing

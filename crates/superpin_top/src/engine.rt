@@ -10,7 +10,7 @@ ghost use Rattle.syscall_layer.specs.Serve.{told_after};
 ghost use Rattle.syscall_layer.specs.Step.{IsOfGuest, run_source_of};
 ghost use Rattle.tool_law.specs.Events.{trace_events};
 ghost use Rattle.tool_law.specs.Planning.{called_of};
-ghost use Rattle.window_run.specs.Windows.{shows};
+ghost use Rattle.sliced_run.specs.Sliced.{shows};
 ghost use Rattle.superpin_top.specs.Engine.{EngineGives, engine_by, frames_by, run_from};
 
 use guest_model::platform::MOST_PAGES;

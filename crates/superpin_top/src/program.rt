@@ -2,7 +2,7 @@
 ghost use Rattle.std.specs.Prelude.{◌≡◌, ℕ, Some, IfOk, IfErr};
 ghost use Rattle.sp_report.specs.Answer.{exit_code_of};
 ghost use Rattle.sp_report.specs.declared.answer.Answer.{Answer};
-ghost use Rattle.window_run.specs.Windows.{shows};
+ghost use Rattle.sliced_run.specs.Sliced.{shows};
 ghost use Rattle.sp_words.specs.Asked.{words_wanted};
 ghost use Rattle.superpin_top.specs.Due.{demo_wanted, texts};
 ghost use Rattle.superpin_top.specs.Outcome.{DemoOutcome, Outcome, WhereDue, WritesLine};

@@ -6,7 +6,7 @@ ghost use Rattle.ins_views.specs.Views.{views_of};
 ghost use Rattle.rv_machine.specs.Load.{machine_of};
 ghost use Rattle.sp_words.specs.Sizes.{has_sizes};
 ghost use Rattle.sp_words.specs.Tools.{meaning_of, with_calls};
-ghost use Rattle.window_run.specs.Windows.{shows};
+ghost use Rattle.sliced_run.specs.Sliced.{shows};
 ghost use Rattle.superpin_top.specs.Causes.{CausedBy, refusal_of_run};
 ghost use Rattle.superpin_top.specs.Due.{Runs};
 ghost use Rattle.superpin_top.specs.Engine.{engine_by, frames_by};

@@ -6,7 +6,7 @@ ghost use Rattle.sp_host.specs.Faults.{To, count_of};
 ghost use Rattle.sp_host.specs.Whole.{most_file};
 ghost use Rattle.guest_mem.specs.Frames.{free_frames};
 ghost use Rattle.sp_words.specs.Asked.{RunWanted, run_of_asked, words_wanted};
-ghost use Rattle.window_run.specs.Windows.{shows};
+ghost use Rattle.sliced_run.specs.Sliced.{shows};
 ghost use Rattle.superpin_top.specs.Causes.{CausedBy, cause_of};
 ghost use Rattle.superpin_top.specs.Due.{OfTask, by_wanted, demo_wanted, due_task, run_task, slicing_in, strings_of, task_of, texts};
 ghost use Rattle.superpin_top.specs.Outcome.{WhereAllTold, WhereDue, AttemptGives, WritesLine, Outcome, DemoOutcome, DemoTells};

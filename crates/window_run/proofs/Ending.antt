@@ -30,54 +30,29 @@ use Rattle.sp_report.specs.Lines.{end_by}
 use Rattle.tool_law.specs.Events as tools
 use Rattle.tool_law.specs.Planning.{called_of}
 use Rattle.tool_step.specs.Steps.{trace_events}
-use Rattle.window_run.specs.Jobs.{AreJobs, HasMerged, IsRun, MergesJobs, and_one, joined_items}
-use Rattle.window_run.specs.Windows.{WindowsEnd, line_by}
-use Rattle.window_run.proofs.Addresses.{trace_in_range}
-use Rattle.window_run.proofs.Filling.{ends_within}
+use Rattle.sliced_run.specs.Sliced.{SlicedEnd, line_by}
+use Rattle.sliced_run.proofs.Ending.{run_ends}
+use Rattle.window_run.specs.Jobs.{AreJobs, HasMerged, IsRun, MergesJobs, and_one}
 use Rattle.window_run.proofs.Going.{IsGoing}
 use Rattle.window_run.proofs.Lists.{paths_hold}
 
--- the trace of a run that ended
-whole_trace : (p : Position) (t : ℕ) (end : serial.End) (budget : ℕ) → serial.EndsAt p t end → t < budget → trace_of budget p ≡ trace_of (t + 1) p
-whole_trace p t end budget h within =
-    let whole : t + 1 + (budget - (t + 1)) ≡ budget = omega (arith, within) in
-    ap (λ (n : ℕ). trace_of n p) (sym whole) ∙ along_stays step_of item_at (t + 1) (budget - (t + 1)) (Running p) (position_at t p) end h.over
-
 module _ {T L S : Type 0} (plan : PlanFields) (calls : Thing → List Call) (views : ViewFields) (stands : List Event → L → Type 0) (is_value : List Event → S → Type 0) where
   -- all pieces were merged
-  pub run_ends : ((a : ℕ) → a < 2 ^ 32 → called_at plan a ≡ called_of calls views a) → (t : Told) (p : Position) (first : PacerState) (limits : Limits) (m : MasterState) (all : List JobFields) (f : Finished T L S) (told : Told) (now : PacerState)
+  pub jobs_end : ((a : ℕ) → a < 2 ^ 32 → called_at plan a ≡ called_of calls views a) → (t : Told) (p : Position) (first : PacerState) (limits : Limits) (m : MasterState) (all : List JobFields) (f : Finished T L S) (told : Told) (now : PacerState)
       → p.machine.pc < 2 ^ 32 → m.limits ≡ limits → m.position < limits.budget → f.cuts.items ≡ m.cuts → HasMerged stands is_value plan all (m.position + 1) f.shared f.lines.items → IsRun t p first all (Some f.end) m told now
-      → WindowsEnd (λ items s. is_value (tools.trace_events calls views items) s) t limits (record { start = p; budget = limits.budget }) first f told now
-  run_ends same t p first limits m all f told now fits limits_are within cuts_are merged run =
-      let over : RunIsOver t p first (end_by f.end) m told now = run.0 in
-      let answers : ℕ → Bool = over.all.answers in
-      let cuts : AreCuts (limits_of limits) answers p m.position m.cuts = subst (λ (l : Limits). AreCuts (limits_of l) answers p m.position m.cuts) limits_are over.all.cuts in
-      let order : AreBetween m.position 0 m.cuts = cuts_rise (limits_of limits) answers p m.position 0 m.cuts cuts in
-      let pieces = paths_hold IsPiece p m.position 0 m.cuts all merged.pieces run.1 merged.are_pieces in
-      let lines = paths_hold IsLineOf p m.position 0 m.cuts all (map line_by f.lines.items) run.1 merged.are_lines in
-      let trace : joined_items merged.pieces ≡ trace_of limits.budget p = joined p m.position (end_by f.end) m.cuts merged.pieces over.ends order pieces ∙ sym (whole_trace p m.position (end_by f.end) limits.budget over.ends within) in
-      let events = ap (trace_events plan) trace ∙ events_of_tool calls views plan (trace_of limits.budget p) same (trace_in_range p fits limits.budget) in
-      record {
-        last = position_at m.position p;
-        ends = ends_within t p first (end_by f.end) m told now limits.budget over within;
-        value = subst (λ (es : List Event). is_value es f.shared) events merged.value;
-        steps = m.position;
-        within = within;
-        by_step = over.ends;
-        answers = answers;
-        answered = subst (λ (l : Limits). HasAnswered answers (m.position / l.poll) first now) limits_are over.all.answered;
-        cuts = subst (λ (cs : List ℕ). AreCuts (limits_of limits) answers p m.position cs) (sym cuts_are) cuts;
-        lines = subst (λ (cs : List ℕ). AreLines p m.position 0 cs (map line_by f.lines.items)) (sym cuts_are) (lines_are p m.position (end_by f.end) 0 m.cuts (map line_by f.lines.items) over.ends order lines);
-      }
+      → SlicedEnd (λ items s. is_value (tools.trace_events calls views items) s) t limits (record { start = p; budget = limits.budget }) first f told now
+  jobs_end same t p first limits m all f told now fits limits_are within cuts_are merged run =
+      run_ends plan calls views is_value same t p first limits m f told now merged.pieces fits limits_are within cuts_are merged.value (paths_hold IsPiece p m.position 0 m.cuts all merged.pieces run.1 merged.are_pieces)
+      (paths_hold IsLineOf p m.position 0 m.cuts all (map line_by f.lines.items) run.1 merged.are_lines) run.0
 
   -- the last window's pieces were merged
   pub all_ends : ((a : ℕ) → a < 2 ^ 32 → called_at plan a ≡ called_of calls views a) → (t : Told) (p : Position) (first : PacerState) (limits : Limits) (m : MasterState) (shared : S) (lines : List SliceLine) (jobs : List JobFields) (last : Option End) (end : End)
       (f : Finished T L S) (told : Told) (now : PacerState) (h : IsGoing stands is_value plan limits shared lines jobs last m) → p.machine.pc < 2 ^ 32 → last ≡ Some end → f.end ≡ end → f.cuts.items ≡ m.cuts
       → ((n : ℕ) → n ≤ 2 ^ 40 → MergesJobs stands is_value plan jobs n shared lines f.shared f.lines.items) → IsRun t p first (h.done ++ jobs) last m told now
-      → WindowsEnd (λ items s. is_value (tools.trace_events calls views items) s) t limits (record { start = p; budget = limits.budget }) first f told now
+      → SlicedEnd (λ items s. is_value (tools.trace_events calls views items) s) t limits (record { start = p; budget = limits.budget }) first f told now
   all_ends same t p first limits m shared lines jobs last end f told now h fits is end_is cuts_are merges run =
       let position : and_one last m.position ≡ m.position + 1 = ap (λ (o : Option End). and_one o m.position) is in
       let within : m.position < limits.budget = omega (arith, h.within, position) in
       let room : m.position + 1 ≤ 2 ^ 40 = omega (arith, within, limits.budget_range.1) in
       let merged = (merges (m.position + 1) room).merged h.done h.e (subst (λ (n : ℕ). AreJobs (length lines) h.e jobs n) position h.waiting) h.merged in
-      run_ends same t p first limits m (h.done ++ jobs) f told now fits h.limits_are within cuts_are merged (subst (λ (o : Option End). IsRun t p first (h.done ++ jobs) o m told now) (is ∙ ap Some (sym end_is)) run)
+      jobs_end same t p first limits m (h.done ++ jobs) f told now fits h.limits_are within cuts_are merged (subst (λ (o : Option End). IsRun t p first (h.done ++ jobs) o m told now) (is ∙ ap Some (sym end_is)) run)

@@ -22,8 +22,9 @@ use Rattle.sp_report.specs.Lines.{end_by}
 use Rattle.syscall_layer.specs.Serve.{told_after}
 use Rattle.syscall_layer.specs.declared.fault.RunFault.{RunFault}
 use Rattle.syscall_layer.specs.declared.fault.RunFault.TheVariants as faults
-use Rattle.window_run.specs.Jobs.{HandsJobs, IsJobOf, IsRun, StaysReady, StopsWithin, and_one}
-use Rattle.window_run.specs.Windows.{WindowsFail}
+use Rattle.window_run.specs.Jobs.{HandsJobs, IsJobOf, IsRun, and_one}
+use Rattle.sliced_run.specs.Sliced.{SlicedFail}
+use Rattle.sliced_run.proofs.Faults.{ends_within}
 use Rattle.window_run.proofs.Lists.{jobs_push}
 
 -- no job yet
@@ -75,55 +76,14 @@ module _ (t : Told) (p : Position) (first : PacerState) (all : List JobFields) (
             (subst (λ (cuts : List ℕ). HoldsForPaths IsJobOf p new.position 0 cuts ((all ++ jobs) ++ job ∷ [])) (sym is.cuts) paths),
       )
 
--- a run that ends within its budget
-pub ends_within : (t : Told) (p : Position) (first : PacerState) (end : serial.End) (m : MasterState) (told : Told) (now : PacerState) (budget : ℕ) → RunIsOver t p first end m told now → m.position < budget
-    → EndsAt t (record { start = p; budget = budget }) (position_at m.position p) end told
-ends_within t p first end m told now budget h within =
-    let whole : m.position + 1 + (budget - (m.position + 1)) ≡ budget = omega (arith, within) in
-    record {
-      stands = over_later step_of (m.position + 1) budget (Running p) (position_at m.position p) end (omega (arith, within)) h.ends.over;
-      told_is = h.told_is
-          ∙ ap (told_after t (position_at m.position p).world)
-          (sym (ap (λ (n : ℕ). sent_of n p) (sym whole) ∙ along_stays step_of sent_at (m.position + 1) (budget - (m.position + 1)) (Running p) (position_at m.position p) end h.ends.over));
-    }
-
--- a fault of the master
-pub fails : (t : Told) (p : Position) (first : PacerState) (old new : MasterState) (fault : RunFault) (told : Told) (now : PacerState) (budget : ℕ) → HandsOutOfRun t p first old (Err fault) new told now → StopsWithin (Err fault) new
-    → new.limits.budget ≡ budget → WindowsFail t (record { start = p; budget = budget }) fault told
-fails t p first old new (faults.Unsupported number pc) told now budget h within same =
-    (position_at new.position p, ends_within t p first (Unsupported number pc) new told now budget h (omega (arith, within, same)))
-fails t p first old new (faults.BudgetSpent n) told now budget h within same =
-    let at : new.position ≡ budget = h.whole ∙ same in (
-      h.position,
-      subst (λ (k : ℕ). run_of k p ≡ Running h.position) at h.stands,
-      h.budget ∙ same,
-      h.told_is ∙ ap (λ (k : ℕ). told_after t h.position.world (sent_of k p)) at,
-    )
-fails t p first old new faults.InputFault told now budget h within same =
-    record { steps = new.position; within = omega (arith, h.within, same); position = h.position; stands = h.stands; holds = h.holds }
-fails t p first old new (faults.OutputFault port) told now budget h within same =
-    record { steps = new.position; within = omega (arith, h.within, same); position = h.position; stands = h.stands; holds = h.holds }
-fails t p first old new faults.NoMemory told now budget h within same =
-    inl (record { steps = new.position; within = omega (arith, h.within, same); position = h.position; stands = h.stands; told_is = h.told_is })
-
 -- want of memory where the master stands
 pub lacks : (t : Told) (p : Position) (first : PacerState) (all : List JobFields) (end : Option End) (m : MasterState) (told : Told) (now : PacerState) (budget : ℕ) → IsRun t p first all end m told now → and_one end m.position ≤ budget
-    → WindowsFail t (record { start = p; budget = budget }) faults.NoMemory told
+    → SlicedFail t (record { start = p; budget = budget }) faults.NoMemory told
 lacks t p first all None m told now budget h within =
     let run : HasRunTo t p first m told now = h.0 in
     inl (record { steps = m.position; within = within; position = run.position; stands = run.stands; told_is = run.told_is })
 lacks t p first all (Some end) m told now budget h within =
     inr (position_at m.position p, end, ends_within t p first (end_by end) m told now budget h.0 (omega (arith, within)))
-
--- want of memory before the first step
-pub lacks_at_start : (t : Told) (p : Position) (told : Told) (budget : ℕ) → told ≡ told_after t p.world [] → WindowsFail t (record { start = p; budget = budget }) faults.NoMemory told
-lacks_at_start t p told budget is = inl (record {
-  steps = 0;
-  within = omega arith;
-  position = p;
-  stands = after-zero step_of (Running p);
-  told_is = is ∙ ap (told_after t p.world) (sym (along-zero step_of sent_at (Running p)));
-})
 
 -- a run before its first step
 pub run_none : (t : Told) (p : Position) (first : PacerState) (m : MasterState) (machine : Machine) (limits : Limits) (told : Told) → m ≡ start_at machine limits → told ≡ told_after t p.world [] → HasRunTo t p first m (told_after t p.world []) first
@@ -132,18 +92,3 @@ run_none t p first m machine limits told start is h = (
   subst (λ (k : Told). HasRunTo t p first m k first) (sym is) h,
   subst (λ (k : MasterState). HoldsForFirst IsJobOf p k.position 0 k.cuts []) (sym start) refl,
 )
-
--- a master is ready behind a job
-pub stays_ready : (r : Result Turn RunFault) (old new : MasterState) → IfOk r (λ turn. HandsOut old turn new) → IfOk r (λ turn. StaysReady turn new)
-stays_ready (Ok (turns.Job job)) old new h = h.ready
-stays_ready (Ok (turns.Last job end)) old new h = tt
-stays_ready (Err fault) old new h = tt
-
--- a call without a row is met within the budget
-pub stops_within : (t : Told) (p : Position) (first : PacerState) (old : MasterState) (r : Result Turn RunFault) (new : MasterState) (told : Told) (now : PacerState) → HandsOutOfRun t p first old r new told now → StopsWithin r new
-stops_within t p first old (Ok turn) new told now h = tt
-stops_within t p first old (Err (faults.Unsupported number pc)) new told now h = h.within
-stops_within t p first old (Err (faults.BudgetSpent n)) new told now h = tt
-stops_within t p first old (Err faults.InputFault) new told now h = tt
-stops_within t p first old (Err (faults.OutputFault port)) new told now h = tt
-stops_within t p first old (Err faults.NoMemory) new told now h = tt

@@ -1,4 +1,3 @@
-pub mod Addresses
 pub mod Ending
 pub mod Filling
 pub mod Going

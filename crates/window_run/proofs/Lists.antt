@@ -39,23 +39,11 @@ paths_hold P p t b (c ∷ cuts) [] xs h z = absurd h
 paths_hold P p t b (c ∷ cuts) (job ∷ jobs) [] h z = absurd z
 paths_hold P p t b (c ∷ cuts) (job ∷ jobs) (x ∷ xs) h z = (subst (λ (path : Path). P path x) h.0 z.0, paths_hold P p t c cuts jobs xs h.1 z.1)
 
-pub zip_push : {A B : Type 0} (P : A → B → Type 0) (xs : List A) (ys : List B) (x : A) (y : B) → AllZip P xs ys → P x y → AllZip P (xs ++ x ∷ []) (ys ++ y ∷ [])
-zip_push P [] [] x y z h = (h, tt)
-zip_push P [] (b ∷ ys) x y z h = absurd z
-zip_push P (a ∷ xs) [] x y z h = absurd z
-zip_push P (a ∷ xs) (b ∷ ys) x y z h = (z.0, zip_push P xs ys x y z.1 h)
-
 pub zip_from_index : {A B : Type 0} (P : A → B → Type 0) (xs : List A) (ys : List B) → length ys ≡ length xs → ((i : ℕ) (x : A) (y : B) → i < length xs → P (get_or xs i x) (get_or ys i y)) → AllZip P xs ys
 zip_from_index P [] [] e h = tt
 zip_from_index P [] (y ∷ ys) e h = absurd (omega (arith, e))
 zip_from_index P (x ∷ xs) [] e h = absurd (omega (arith, e))
 zip_from_index P (x ∷ xs) (y ∷ ys) e h = (h 0 x y (omega arith), zip_from_index P xs ys (omega (arith, e)) (λ i a b lt. h (suc i) a b (omega (arith, lt))))
-
-pub zip_length : {A B : Type 0} (P : A → B → Type 0) (xs : List A) (ys : List B) → AllZip P xs ys → length xs ≡ length ys
-zip_length P [] [] z = refl
-zip_length P [] (y ∷ ys) z = absurd z
-zip_length P (x ∷ xs) [] z = absurd z
-zip_length P (x ∷ xs) (y ∷ ys) z = let rest = zip_length P xs ys z.1 in omega (arith, rest)
 
 pub if_ok_both : {T E : Type 0} (r : Result T E) {P Q R : T → Type 0} → ((x : T) → P x → Q x → R x) → IfOk r P → IfOk r Q → IfOk r R
 if_ok_both (Ok x) f p q = f x p q

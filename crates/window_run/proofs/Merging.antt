@@ -17,16 +17,9 @@ use Rattle.slice_runner.specs.Piece.{IsPieceOf}
 use Rattle.tool_law.specs.Law.{Merges}
 use Rattle.tool_law.specs.declared.piece.Piece.{Piece}
 use Rattle.tool_step.specs.Steps.{item_events, trace_events}
-use Rattle.window_run.specs.Jobs.{AreJobs, HasMerged, IsResultOf, joined_items}
-use Rattle.window_run.specs.Windows.{line_by}
-use Rattle.window_run.proofs.Lists.{zip_push}
-
-map_push : {A B : Type 0} (f : A → B) (xs : List A) (x : A) → map f (xs ++ x ∷ []) ≡ map f xs ++ f x ∷ []
-map_push f [] x = refl
-map_push f (y ∷ xs) x = ap (λ ys. f y ∷ ys) (map_push f xs x)
-
-joined_push : (pieces : List (List TraceItem)) (items : List TraceItem) → joined_items (pieces ++ items ∷ []) ≡ joined_items pieces ++ items
-joined_push pieces items = flat_map-append (λ (xs : List TraceItem). xs) pieces (items ∷ []) ∙ ap (λ (xs : List TraceItem). joined_items pieces ++ xs) (append-nil items)
+use Rattle.sliced_run.specs.Sliced.{joined_items, line_by}
+use Rattle.sliced_run.proofs.Lists.{joined_push, map_push, zip_push}
+use Rattle.window_run.specs.Jobs.{AreJobs, HasMerged, IsResultOf}
 
 -- jobs end no sooner than they begin
 jobs_within : (n b e : ℕ) (jobs : List JobFields) → AreJobs n b jobs e → b ≤ e

@@ -1,6 +1,6 @@
 -- The jobs that a master handed out, and the pieces of those that were run and merged.
 use Rattle.std.specs.Prelude.{◌≡◌, ℕ, ◌+◌, ◌-◌, ◌*◌, ◌<◌, ◌≤◌, List, [], ◌∷◌, ◌++◌, length, map, Option, None, Some, Result, Ok, Err, IfOk}
-use Rattle.std.specs.List.{AllZip, flat_map}
+use Rattle.std.specs.List.{AllZip}
 use Rattle.std.specs.declared.alloc.AllocError.{AllocError}
 use Rattle.sp_host.specs.Told.{Told}
 use Rattle.guest_model.specs.Serial.{Position, TraceItem}
@@ -23,22 +23,8 @@ use Rattle.syscall_layer.specs.declared.fault.RunFault.{RunFault}
 use Rattle.syscall_layer.specs.declared.fault.RunFault.TheVariants as faults
 use Rattle.tool_law.specs.declared.piece.Piece.{Piece}
 use Rattle.tool_step.specs.Steps.{trace_events}
-use Rattle.window_run.specs.Windows.{WindowsFail, line_by}
+use Rattle.sliced_run.specs.Sliced.{SlicedFail, joined_items, line_by}
 use Rattle.window_run.specs.declared.window.Window.{Window}
-
--- a master is ready behind a job
-abbrev pub StaysReady : Turn → MasterState → Type 0
-StaysReady (turns.Job job) new = new.standing ≡ Ready
-StaysReady (turns.Last job end) new = Unit {0}
-
--- it comes to a call without a row within its budget
-abbrev pub StopsWithin : Result Turn RunFault → MasterState → Type 0
-StopsWithin (Ok turn) new = Unit {0}
-StopsWithin (Err (faults.Unsupported number pc)) new = new.position < new.limits.budget
-StopsWithin (Err (faults.BudgetSpent n)) new = Unit {0}
-StopsWithin (Err faults.InputFault) new = Unit {0}
-StopsWithin (Err (faults.OutputFault port)) new = Unit {0}
-StopsWithin (Err faults.NoMemory) new = Unit {0}
 
 -- jobs with the numbers from n on, of as many steps as lie between neighbouring positions from b up to e
 abbrev pub AreJobs : ℕ → ℕ → List JobFields → ℕ → Type 0
@@ -74,15 +60,11 @@ IsRun t p first all (Some end) m told now = RunIsOver t p first (end_by end) m t
 
 abbrev pub FillGives : Told → Position → PacerState → List JobFields → ℕ → Result Window RunFault → MasterState → Told → PacerState → Type 0
 FillGives t p first all budget (Ok w) m told now = IsRun t p first (all ++ w.jobs.items) w.end m told now
-FillGives t p first all budget (Err fault) m told now = WindowsFail t (record { start = p; budget = budget }) fault told
+FillGives t p first all budget (Err fault) m told now = SlicedFail t (record { start = p; budget = budget }) fault told
 
 -- what filling a window tells, where the run so far is told
 pub record FillTells (old : MasterState) (from : Told) (before : PacerState) (result : Result Window RunFault) (m : MasterState) (told : Told) (now : PacerState) : Type 0 where
   pub gives : (t : Told) (p : Position) (first : PacerState) (all : List JobFields) → IsRun t p first all None old from before → FillGives t p first all old.limits.budget result m told now
-
--- the trace of pieces, one after the other
-abbrev pub joined_items : List (List TraceItem) → List TraceItem
-joined_items pieces = flat_map (λ items. items) pieces
 
 module _ {L S : Type 0} (stands : List Event → L → Type 0) (is_value : List Event → S → Type 0) (plan : PlanFields) where
   -- the state stands for the pieces of these jobs, which have e steps, and the lines are theirs

@@ -4,7 +4,7 @@ ghost use Rattle.std.specs.List.{AllZip};
 ghost use Rattle.sp_host.specs.Faults.{CausedIn};
 ghost use Rattle.syscall_layer.specs.Step.{IsOfGuest, run_source_of};
 ghost use Rattle.master_run.specs.Master.{Ready};
-ghost use Rattle.window_run.specs.Windows.{shows};
+ghost use Rattle.sliced_run.specs.Sliced.{shows};
 ghost use Rattle.window_run.specs.Jobs.{AreJobs, FillTells, HandsJobs, IsResultOf, MergesJobs};
 
 use crate::slices::{Work, put_pieces, run_taken};

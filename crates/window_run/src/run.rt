@@ -11,7 +11,7 @@ ghost use Rattle.tool_law.specs.Events.{trace_events};
 ghost use Rattle.tool_law.specs.Planning.{called_of};
 ghost use Rattle.serial_run.specs.Start.{start_of};
 ghost use Rattle.window_run.specs.Jobs.{AreJobs, MergesJobs, and_one};
-ghost use Rattle.window_run.specs.Windows.{WindowsGive, shows};
+ghost use Rattle.sliced_run.specs.Sliced.{SlicedGives, shows};
 
 use crate::beside::next_window;
 use crate::slices::{Work, put_pieces, run_jobs};
@@ -93,7 +93,7 @@ pub fn run_windows<T: Tool, H: Host + Send, P: Pacer + Send, R: Threads + Sync>(
 
     // Where the host tells: the value, the end, the bytes sent and what was taken, the cuts and the lines; the cause of each fault.
     ensures told { (t : Told) (w : World) → H.told host.old ≡ told_after t w [] →
-        WindowsGive (λ items s. T.is_value tool.now
+        SlicedGives (λ items s. T.is_value tool.now
         (trace_events (T.calls_of tool.now) views.now items) s) t limits.now
         (record { start = start_of guest.machine w; budget = limits.now.budget })
         (shows (P.period_shown pacer.old) (P.tally pacer.old) (P.answers pacer.old))

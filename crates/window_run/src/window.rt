@@ -1,18 +1,15 @@
 // The jobs of one window.
 ghost use Rattle.std.specs.Prelude.{◌≡◌, ◌≤◌, IfErr, IfOk, length};
 ghost use Rattle.sp_host.specs.Faults.{CausedIn};
-ghost use Rattle.sp_host.specs.Told.{Told};
-ghost use Rattle.guest_model.specs.Serial.{Position};
 ghost use Rattle.syscall_layer.specs.Step.{IsOfGuest, run_source_of};
-ghost use Rattle.master_run.specs.Answers.{PacerState};
-ghost use Rattle.master_run.specs.Master.{HasRunTo, Ready};
-ghost use Rattle.master_run.specs.Turn.{HandsOut, HandsOutOfRun};
-ghost use Rattle.window_run.specs.Windows.{shows};
-ghost use Rattle.window_run.specs.Jobs.{FillTells, HandsJobs, StaysReady, StopsWithin};
+ghost use Rattle.master_run.specs.Master.{Ready};
+ghost use Rattle.sliced_run.specs.Sliced.{shows};
+ghost use Rattle.window_run.specs.Jobs.{FillTells, HandsJobs};
 
 use boundary_verify::Job;
 use master_run::{Master, Turn};
 use rv_machine::End;
+use sliced_run::next_turn;
 use sp_host::{Host, Pacer};
 use std::alloc::Global;
 use std::sync::atomic::{AtomicBool, Ordering};
@@ -23,29 +20,6 @@ use syscall_layer::RunFault;
 pub(crate) struct Window {
     pub(crate) jobs: Vec<Job>,
     pub(crate) end: Option<End>,
-}
-
-// The next turn of a master that is ready.
-fn next_turn<H: Host, P: Pacer>(
-    master: &mut Master,
-    host: &mut H,
-    pacer: &mut P,
-) -> Result<Turn, RunFault>
-    requires { master.old.standing ≡ Ready }
-    ensures turn { IfOk result (λ turn. HandsOut master.old turn master.new) }
-    ensures ready { IfOk result (λ turn. StaysReady turn master.new) }
-    ensures limits { master.new.limits ≡ master.old.limits }
-    ensures faults { CausedIn run_source_of (H.faults host.old) (H.faults host.new) result }
-    ensures port { IfErr result IsOfGuest }
-    ensures period { P.period_shown pacer.new ≡ P.period_shown pacer.old }
-    ensures told { (t : Told) (p : Position) (first : PacerState)
-        → HasRunTo t p first master.old (H.told host.old)
-        (shows (P.period_shown pacer.old) (P.tally pacer.old) (P.answers pacer.old))
-        → HandsOutOfRun t p first master.old result master.new (H.told host.new)
-        (shows (P.period_shown pacer.new) (P.tally pacer.new) (P.answers pacer.new))
-        × StopsWithin result master.new }
-{
-    master.next_job(host, pacer)
 }
 
 /// Makes jobs until there are `most`, the run is over, or there is one and `stop` is set.

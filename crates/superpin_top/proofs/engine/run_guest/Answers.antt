@@ -1,5 +1,5 @@
 use Rattle.tool_law.specs.Events.{trace_events}
-use Rattle.window_run.specs.Windows.{shows}
+use Rattle.sliced_run.specs.Sliced.{shows}
 use Rattle.superpin_top.specs.Engine.{engine_by, run_from}
 use Rattle.superpin_top.proofs.Engines.{paced, serial_gives, windows_gives}
 use Rattle.superpin_top.proofs.engine.run_guest.Goals as goal

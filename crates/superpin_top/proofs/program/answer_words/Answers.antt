@@ -4,7 +4,7 @@ use Rattle.std.specs.declared.alloc.Global.{Global}
 use Rattle.sp_report.specs.Answer.{exit_code_of}
 use Rattle.sp_report.specs.declared.answer.Answer.{Answer}
 use Rattle.sp_report.specs.declared.answer.Refusal.{Refusal}
-use Rattle.window_run.specs.Windows.{shows}
+use Rattle.sliced_run.specs.Sliced.{shows}
 use Rattle.superpin_top.specs.Due.{OfTask, task_of, texts}
 use Rattle.superpin_top.specs.Outcome.{Outcome, WhereDue}
 use Rattle.superpin_top.proofs.Ready.{of_each}

@@ -3,7 +3,7 @@ use Rattle.std.specs.Prelude.{Ok}
 use Rattle.sp_words.specs.Tools.{meaning_of}
 use Rattle.sp_words.specs.declared.asked.ToolName.{ToolName}
 use Rattle.sp_words.specs.declared.asked.ToolName.TheVariants.{Cache}
-use Rattle.window_run.specs.Windows.{shows}
+use Rattle.sliced_run.specs.Sliced.{shows}
 use Rattle.superpin_top.specs.Due.{Runs}
 use Rattle.superpin_top.specs.Engine.{engine_by}
 use Rattle.superpin_top.specs.Outcome.{AttemptGives}

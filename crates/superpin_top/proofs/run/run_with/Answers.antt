@@ -10,7 +10,7 @@ use Rattle.sp_words.specs.Due.{Program, report_of, run_of_program}
 use Rattle.sp_words.specs.Run.{Run}
 use Rattle.sp_words.specs.Tools.{with_calls}
 use Rattle.tool_law.specs.Events.{trace_events}
-use Rattle.window_run.specs.Windows.{shows}
+use Rattle.sliced_run.specs.Sliced.{shows}
 use Rattle.superpin_top.specs.Due.{Runs}
 use Rattle.superpin_top.specs.Engine.{EngineEnds, EngineFails, engine_by, sliced_by}
 use Rattle.superpin_top.specs.Outcome.{Refuses}

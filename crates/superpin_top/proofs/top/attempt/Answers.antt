@@ -4,7 +4,7 @@ use Rattle.sp_report.specs.declared.answer.Refusal.{Refusal}
 use Rattle.sp_words.specs.Asked.{ToDemo, ToRun, ToView, run_of_asked, wanted_of, words_wanted}
 use Rattle.sp_words.specs.Split.{Text}
 use Rattle.sp_words.specs.declared.asked.Asked.{Asked}
-use Rattle.window_run.specs.Windows.{shows}
+use Rattle.sliced_run.specs.Sliced.{shows}
 use Rattle.superpin_top.specs.Due.{OfTask, Task, demo_wanted, task_of, texts}
 use Rattle.superpin_top.specs.Outcome.{AttemptGives, DemoTells, IsDecided, Refuses}
 use Rattle.superpin_top.proofs.Demos.{words_demo}

@@ -3,7 +3,7 @@ use Rattle.std.specs.Prelude.{Ok, Result, IfErr}
 use Rattle.sp_host.specs.Told.{Told, file_of}
 use Rattle.sp_report.specs.declared.answer.Refusal.{Refusal}
 use Rattle.sp_words.specs.Asked.{RunWanted, run_of_asked}
-use Rattle.window_run.specs.Windows.{shows}
+use Rattle.sliced_run.specs.Sliced.{shows}
 use Rattle.superpin_top.specs.Due.{Runs, Task, program_of, run_task, strings_of, texts}
 use Rattle.superpin_top.specs.Outcome.{AttemptGives}
 use Rattle.superpin_top.specs.Top.{IsLate}

@@ -5,7 +5,7 @@ use Rattle.sp_report.specs.declared.answer.Answer.{Answer}
 use Rattle.sp_report.specs.declared.answer.Answer.TheVariants.{Ended, Refused}
 use Rattle.sp_report.specs.declared.answer.Refusal.{Refusal}
 use Rattle.sp_report.specs.declared.answer.Refusal.TheVariants.{NoMemory}
-use Rattle.window_run.specs.Windows.{shows}
+use Rattle.sliced_run.specs.Sliced.{shows}
 use Rattle.superpin_top.specs.Due.{due_task, not_sliced, task_of, texts}
 use Rattle.superpin_top.specs.Outcome.{AddsFront, AttemptGives, CanRise, IsCaused, IsDecided, IsDelivered, IsEarly, NoneRose, Outcome, TellsSlices, done_slicing}
 use Rattle.superpin_top.proofs.Causes.{refused_where, port_where, report_rose, guests_port}

@@ -5,7 +5,7 @@ use Rattle.sp_host.specs.Told.{Told}
 use Rattle.master_run.specs.Answers.{PacerState}
 use Rattle.syscall_layer.specs.declared.fault.RunFault.{RunFault}
 use Rattle.window_run.specs.Jobs.{FillGives, HandsJobs, IsResultOf}
-use Rattle.window_run.specs.Windows.{shows}
+use Rattle.sliced_run.specs.Sliced.{shows}
 use Rattle.window_run.specs.declared.window.Window.{Window}
 use Rattle.window_run.proofs.Filling.{lacks}
 use Rattle.window_run.proofs.Lists.{numbered}

@@ -7,9 +7,10 @@ use Rattle.master_run.specs.Master.{MasterState}
 use Rattle.rv_machine.specs.declared.step.End.{End}
 use Rattle.serial_run.specs.Start.{start_of}
 use Rattle.window_run.specs.Jobs.{IsRun}
-use Rattle.window_run.specs.Windows.{WindowsFail, shows}
+use Rattle.sliced_run.specs.Sliced.{SlicedFail, shows}
 use Rattle.window_run.proofs.Ending.{all_ends}
-use Rattle.window_run.proofs.Filling.{lacks, lacks_at_start, run_none}
+use Rattle.sliced_run.proofs.Faults.{lacks_at_start}
+use Rattle.window_run.proofs.Filling.{lacks, run_none}
 use Rattle.window_run.proofs.Going.{going_first, going_next, less_left}
 use Rattle.window_run.proofs.run.run_windows.Goals as goal
 
@@ -26,7 +27,7 @@ returns-in-Err-clause-told g c t w is =
     let first : PacerState = shows (g.P.Pacer.period_shown pacer) (g.P.Pacer.tally pacer) (g.P.Pacer.answers pacer) in
     let m = c.in-Ok-launch.master in
     let start = run_none t p first m c.args.guest.machine c.args.limits.now (g.H.Host.told c.args.host.now) c.in-Ok-launch.ensures.start is (c.in-Ok-launch.ensures.told t w first) in
-    subst (λ (n : ℕ). WindowsFail t (record { start = p; budget = n }) c.in-Err.fault (g.H.Host.told c.fill.new.host)) (ap (λ (k : MasterState). k.limits.budget) c.in-Ok-launch.ensures.start)
+    subst (λ (n : ℕ). SlicedFail t (record { start = p; budget = n }) c.in-Err.fault (g.H.Host.told c.fill.new.host)) (ap (λ (k : MasterState). k.limits.budget) c.in-Ok-launch.ensures.start)
     (c.in-Err.ensures.told.gives t p first [] start)
 
 pub loop-end-init : goal.loop-end-init
@@ -63,7 +64,7 @@ returns-in-Err-next_window-clause-told g c t w is =
     let m = c.loop-end.master in
     let all = c.loop-end.invariant.going.done ++ c.loop-end.window.jobs.items in
     let run = subst (λ (o : Option End). IsRun t p first all o m (g.H.Host.told c.loop-end.host) before) c.in_default-end.is (c.loop-end.invariant.run t w is) in
-    subst (λ (n : ℕ). WindowsFail t (record { start = p; budget = n }) c.in-Err-next_window.fault (g.H.Host.told c.next_window.new.host)) (ap (λ l. l.budget) c.loop-end.invariant.going.limits_are)
+    subst (λ (n : ℕ). SlicedFail t (record { start = p; budget = n }) c.in-Err-next_window.fault (g.H.Host.told c.next_window.new.host)) (ap (λ l. l.budget) c.loop-end.invariant.going.limits_are)
     (c.in-Err-next_window.ensures.told.gives t p first all run)
 
 pub loop-end-smaller : goal.loop-end-smaller

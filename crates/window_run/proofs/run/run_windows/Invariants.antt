@@ -4,7 +4,7 @@ use Rattle.guest_model.specs.Call.{World}
 use Rattle.syscall_layer.specs.Serve.{told_after}
 use Rattle.serial_run.specs.Start.{start_of}
 use Rattle.window_run.specs.Jobs.{IsRun, and_one}
-use Rattle.window_run.specs.Windows.{shows}
+use Rattle.sliced_run.specs.Sliced.{shows}
 use Rattle.window_run.proofs.Going.{IsGoing}
 use Rattle.window_run.proofs.run.run_windows.Given as goal
 

@@ -2,7 +2,7 @@ use Rattle.std.proofs.Common.{rules, ◌≡◌, [], length, ap, arith}
 use Rattle.std.proofs.lemmas.Grind.{common_steps}
 use Rattle.std.specs.Vec.Iter.{into_iter_items}
 use Rattle.window_run.specs.Jobs.{IsResultOf}
-use Rattle.window_run.proofs.Lists.{zip_length}
+use Rattle.sliced_run.proofs.Lists.{zip_length}
 use Rattle.window_run.proofs.Merging.{halfway_end, halfway_start, halfway_step}
 use Rattle.window_run.proofs.slices.put_pieces.Goals as goal
 

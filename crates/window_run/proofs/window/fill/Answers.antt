@@ -6,9 +6,11 @@ use Rattle.master_run.specs.Answers.{PacerState}
 use Rattle.master_run.specs.Turn.{HandsOut, HandsOutOfRun}
 use Rattle.master_run.specs.declared.limits.Limits.{Limits}
 use Rattle.master_run.specs.declared.master.Turn.{Turn}
-use Rattle.window_run.specs.Jobs.{HandsJobs, IsRun, StaysReady}
-use Rattle.window_run.specs.Windows.{shows}
-use Rattle.window_run.proofs.Filling.{fails, handed_job, handed_last, lacks, run_last, run_more}
+use Rattle.sliced_run.specs.Turns.{StaysReady}
+use Rattle.window_run.specs.Jobs.{HandsJobs, IsRun}
+use Rattle.sliced_run.specs.Sliced.{shows}
+use Rattle.sliced_run.proofs.Faults.{fails}
+use Rattle.window_run.proofs.Filling.{handed_job, handed_last, lacks, run_last, run_more}
 use Rattle.window_run.proofs.window.fill.Goals as goal
 
 pub returns-in_default-clause-told : goal.returns-in_default-clause-told

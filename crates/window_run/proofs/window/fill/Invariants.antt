@@ -5,7 +5,7 @@ use Rattle.guest_model.specs.Serial.{Position}
 use Rattle.boundary_verify.specs.Job.{JobFields}
 use Rattle.master_run.specs.Answers.{PacerState}
 use Rattle.window_run.specs.Jobs.{HandsJobs, IsRun}
-use Rattle.window_run.specs.Windows.{shows}
+use Rattle.sliced_run.specs.Sliced.{shows}
 use Rattle.window_run.proofs.window.fill.Given as goal
 
 abbrev pub invariant-loop-turn : goal.invariant-loop-turn

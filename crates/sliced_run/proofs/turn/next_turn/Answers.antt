@@ -1,8 +1,8 @@
 use Rattle.master_run.specs.Answers.{PacerState}
 use Rattle.sp_host.specs.Told.{Told}
-use Rattle.window_run.specs.Windows.{shows}
-use Rattle.window_run.proofs.Filling.{stays_ready, stops_within}
-use Rattle.window_run.proofs.window.next_turn.Goals as goal
+use Rattle.sliced_run.specs.Sliced.{shows}
+use Rattle.sliced_run.proofs.Turns.{stays_ready, stops_within}
+use Rattle.sliced_run.proofs.turn.next_turn.Goals as goal
 
 pub returns-clause-ready : goal.returns-clause-ready
 returns-clause-ready g c = stays_ready c.next_job.result c.args.master.now c.next_job.new.self c.next_job.ensures.turn

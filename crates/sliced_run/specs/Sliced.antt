@@ -1,5 +1,6 @@
--- What a run by windows answers, and what it does to what a host tells and to what a pacer shows.
+-- What a run that is cut into slices answers, and what it does to what a host tells and to what a pacer shows.
 use Rattle.std.specs.Prelude.{◌≡◌, ◌⊎◌, ℕ, ◌/◌, ◌<◌, ◌≤◌, Bool, false, List, map, Option, Result, Ok, Err}
+use Rattle.std.specs.List.{flat_map}
 use Rattle.sp_host.specs.Tally.{Tally}
 use Rattle.sp_host.specs.Told.{Told}
 use Rattle.guest_model.specs.Runs.{Running}
@@ -31,7 +32,7 @@ line_by l = record { steps = l.steps; calls = l.calls; hits = counts_of l.hits }
 
 -- A run came to its end: how it ended, what the state stands for, where the run was cut, its lines, and what is told then. The
 -- cuts are those that the pacer's answers and the limits make due, and no other.
-pub record WindowsEnd {T L S : Type 0} (is_value : List TraceItem → S → Type 0) (t : Told) (limits : Limits) (r : Run) (first : PacerState) (f : Finished T L S) (new : Told) (now : PacerState) : Type 0 where
+pub record SlicedEnd {T L S : Type 0} (is_value : List TraceItem → S → Type 0) (t : Told) (limits : Limits) (r : Run) (first : PacerState) (f : Finished T L S) (new : Told) (now : PacerState) : Type 0 where
   pub last : Position
   pub ends : EndsAt t r last (end_by f.end) new
   pub value : is_value (trace_of r.budget r.start) f.shared
@@ -54,13 +55,17 @@ pub record StandsBetween (t : Told) (r : Run) (new : Told) : Type 0 where
 
 -- What a run that did not come to an end answers, and what is told then: what the serial run does, but for want of memory, which
 -- comes between two steps of the run or behind its end.
-abbrev pub WindowsFail : Told → Run → RunFault → Told → Type 0
-WindowsFail t r (faults.Unsupported number pc) new = RunFails false t r (faults.Unsupported number pc) new
-WindowsFail t r (faults.BudgetSpent n) new = RunFails false t r (faults.BudgetSpent n) new
-WindowsFail t r faults.InputFault new = RunFails false t r faults.InputFault new
-WindowsFail t r (faults.OutputFault port) new = RunFails false t r (faults.OutputFault port) new
-WindowsFail t r faults.NoMemory new = StandsBetween t r new ⊎ ((last : Position) × (end : End) × EndsAt t r last (end_by end) new)
+abbrev pub SlicedFail : Told → Run → RunFault → Told → Type 0
+SlicedFail t r (faults.Unsupported number pc) new = RunFails false t r (faults.Unsupported number pc) new
+SlicedFail t r (faults.BudgetSpent n) new = RunFails false t r (faults.BudgetSpent n) new
+SlicedFail t r faults.InputFault new = RunFails false t r faults.InputFault new
+SlicedFail t r (faults.OutputFault port) new = RunFails false t r (faults.OutputFault port) new
+SlicedFail t r faults.NoMemory new = StandsBetween t r new ⊎ ((last : Position) × (end : End) × EndsAt t r last (end_by end) new)
 
-abbrev pub WindowsGive : {T L S : Type 0} → (List TraceItem → S → Type 0) → Told → Limits → Run → PacerState → Result (Finished T L S) RunFault → Told → PacerState → Type 0
-WindowsGive is_value t limits r first (Ok f) new now = WindowsEnd is_value t limits r first f new now
-WindowsGive is_value t limits r first (Err fault) new now = WindowsFail t r fault new
+abbrev pub SlicedGives : {T L S : Type 0} → (List TraceItem → S → Type 0) → Told → Limits → Run → PacerState → Result (Finished T L S) RunFault → Told → PacerState → Type 0
+SlicedGives is_value t limits r first (Ok f) new now = SlicedEnd is_value t limits r first f new now
+SlicedGives is_value t limits r first (Err fault) new now = SlicedFail t r fault new
+
+-- the trace of pieces, one after the other
+abbrev pub joined_items : List (List TraceItem) → List TraceItem
+joined_items pieces = flat_map (λ items. items) pieces

@@ -1,0 +1,5 @@
+pub mod Addresses
+pub mod Ending
+pub mod Faults
+pub mod Lists
+pub mod Turns
