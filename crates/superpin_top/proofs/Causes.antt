@@ -4,7 +4,7 @@ use Rattle.std.specs.Prelude.{Option, None, Some, ◌↔◌, Result, Ok, IfErr, 
 use Rattle.std.specs.Prelude as std
 use Rattle.sp_host.specs.Told.{Told}
 use Rattle.sp_host.specs.Count.{one_more}
-use Rattle.sp_host.specs.Faults.{Source, File, Input, To, Faults, Faulted, Caused, count_of, with_count}
+use Rattle.sp_host.specs.Faults.{Source, File, Input, To, Faults, Faulted, Caused, CausedIn, count_of, with_count}
 use Rattle.sp_host.specs.declared.host.Port.{Port}
 use Rattle.sp_host.specs.declared.host.Port.TheVariants.{Out, Err, Report}
 use Rattle.sp_report.specs.declared.answer.Answer.TheVariants.{Refused}
@@ -40,6 +40,15 @@ run_caused (faults.BudgetSpent n) before now caused guests = (caused, tt)
 run_caused faults.InputFault before now caused guests = (caused, tt)
 run_caused (faults.OutputFault port) before now caused guests = (caused, guests)
 run_caused faults.NoMemory before now caused guests = (caused, tt)
+
+-- so is that of a result
+pub result_caused : {X : Type 0} (result : Result X RunFault) (fault : RunFault) (before now : Faults) → result ≡ std.Err fault → CausedIn run_source before now result → IfErr result IsRunGuests → CausedBy (refusal_of_run fault) before now
+result_caused (std.Err other) fault before now is caused guests = let same : other ≡ fault = cc in subst (λ (k : RunFault). CausedBy (refusal_of_run k) before now) same (run_caused other before now caused guests)
+result_caused (Ok x) fault before now is caused guests = cc
+
+pub result_calm : {X : Type 0} (result : Result X RunFault) (x : X) (before now : Faults) → result ≡ Ok x → CausedIn run_source before now result → now ≡ before
+result_calm (Ok other) x before now is calm = calm
+result_calm (std.Err fault) x before now is calm = cc
 
 -- a fault of the words has no cause in the outside
 pub words_caused : (fault : WordFault) (f : Faults) → CausedBy (refusal_of_words fault) f f

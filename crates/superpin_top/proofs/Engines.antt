@@ -75,3 +75,14 @@ pub paced : (first : PacerState) (period : ℕ) (tally : Tally) (answers : Optio
 paced first period tally answers msec shown same told =
     ap (λ (n : ℕ). record { period = n; tally = tally; answers = answers }) shown
     ∙ (ap (λ (k : Tally). record { period = msec; tally = k; answers = answers }) same ∙ ap (λ (o : Option (ℕ → Bool)). record { period = msec; tally = first.tally; answers = o }) told)
+
+-- a run that failed, and one that came to its end
+pub engine_fails : {T L S : Type 0} (is_value : List TraceItem → S → Type 0) (t : Told) (r : Run) (first : PacerState) (result : Result (Finished T L S) RunFault) (fault : RunFault) (new : Told) (now : PacerState) → result ≡ Err fault → EngineGives is_value t r first result new now
+    → EngineFails r.by r t fault new
+engine_fails is_value t r first (Err other) fault new now is gives = let same : other ≡ fault = cc in subst (λ (k : RunFault). EngineFails r.by r t k new) same gives
+engine_fails is_value t r first (Ok f) fault new now is gives = cc
+
+pub engine_ends : {T L S : Type 0} (is_value : List TraceItem → S → Type 0) (t : Told) (r : Run) (first : PacerState) (result : Result (Finished T L S) RunFault) (f : Finished T L S) (new : Told) (now : PacerState) → result ≡ Ok f → EngineGives is_value t r first result new now
+    → EngineEnds is_value t r first f new now
+engine_ends {T = T} {L = L} {S = S} is_value t r first (Ok other) f new now is gives = let same : other ≡ f = cc in subst (λ (k : Finished T L S). EngineEnds is_value t r first k new now) same gives
+engine_ends is_value t r first (Err fault) f new now is gives = cc

@@ -6,3 +6,5 @@ pub mod Headline
 pub mod Texts
 pub mod Engines
 pub mod Demos
+pub mod Answered
+pub mod Attempts

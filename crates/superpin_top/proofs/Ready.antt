@@ -2,7 +2,7 @@
 use Rattle.std.proofs.Common.{◌≡◌, ◌<◌, ◌≤◌, ◌-◌, ◌^◌, ℕ, List, length, refl, ap, sym, ◌∙◌, arith, inl, inr, subst}
 use Rattle.std.specs.Prelude.{Option, None, Some, Result, Ok, Err, Bool, true, false, nat_lt, min, if◌then◌else◌}
 use Rattle.std.proofs.lemmas.Bool.Decides.{nat_tests}
-use Rattle.sp_host.specs.Told.{Told, Files}
+use Rattle.sp_host.specs.Told.{Told}
 use Rattle.sp_host.specs.Whole.{most_file, FaultFits}
 use Rattle.sp_host.specs.declared.whole.ReadFault.{ReadFault}
 use Rattle.sp_host.specs.declared.whole.ReadFault.TheVariants as reads
@@ -11,20 +11,23 @@ use Rattle.elf_load.specs.Image.{ImageFields}
 use Rattle.elf_load.specs.declared.fault.ElfFault.{ElfFault}
 use Rattle.guest_model.specs.Call.{World}
 use Rattle.guest_model.specs.declared.platform.TheConstants.{MOST_STRINGS}
-use Rattle.rv_machine.specs.Load.{strings_size}
+use Rattle.rv_machine.specs.Load.{machine_of, strings_size}
 use Rattle.sp_report.specs.declared.answer.Refusal.{Refusal}
 use Rattle.sp_report.specs.declared.answer.Refusal.TheVariants as refusals
 use Rattle.sp_report.specs.declared.answer.Answer.TheVariants as answers
 use Rattle.sp_report.specs.declared.answer.UsageKind.{UsageKind}
 use Rattle.master_run.specs.Answers.{PacerState}
-use Rattle.sp_words.specs.Asked.{Answers, RunWanted, Wanted, words_wanted}
+use Rattle.sp_words.specs.Asked.{Answers, RunWanted, Wanted}
+use Rattle.sp_words.specs.Tools.{meaning_of}
 use Rattle.sp_words.specs.declared.asked.WordFault.{WordFault}
 use Rattle.sp_words.specs.declared.asked.WordFault.TheVariants as words
 use Rattle.superpin_top.specs.Causes.{refusal_of_read, refusal_of_words}
-use Rattle.superpin_top.specs.Due.{OfTask, Task, Runs, Shows, program_of, run_task, strings_of, task_in, task_of, task_of_file, task_of_image, task_of_tested, task_of_wanted, view_task}
-use Rattle.superpin_top.specs.Outcome.{IsAccepted, IsDecided, Refuses}
-use Rattle.superpin_top.specs.Top.{ImageGives, IsBefore, IsLate, IsOfWords, IsPastWords, ReadGives, answer_by}
+use Rattle.superpin_top.specs.Due.{OfTask, Task, Runs, Shows, program_of, run_task, strings_of, task_of_file, task_of_image, task_of_tested, view_task}
+use Rattle.superpin_top.specs.Engine.{program_by}
+use Rattle.superpin_top.specs.Outcome.{AttemptGives, IsAccepted, IsDecided, Refuses}
+use Rattle.superpin_top.specs.Top.{ImageGives, IsBefore, IsLate, IsLoadedFor, IsOfWords, IsPastWords, ReadGives, answer_by}
 use Rattle.superpin_top.specs.declared.engine.Done.{Done}
+use Rattle.superpin_top.specs.declared.load.LoadedRun.{LoadedRun}
 use Rattle.superpin_top.proofs.Outcomes.{refused_before}
 
 -- a file that was not read
@@ -100,17 +103,8 @@ unread_task file task refusals.InputFault gives = absurd gives
 unread_task file task (refusals.OutputFault port) gives = absurd gives
 unread_task file task refusals.ReportFault gives = absurd gives
 
--- what the words ask for
-pub of_words : (words : List (List ℕ)) (files : Files) (wanted : Wanted) → words_wanted words ≡ Ok wanted → task_of words files ≡ task_in files wanted
-unfolding task_of
-of_words words files wanted is = ap (λ (w : Result Wanted UsageKind). task_of_wanted w files) is
-
-of_no_words : (words : List (List ℕ)) (files : Files) (kind : UsageKind) → words_wanted words ≡ Err kind → task_of words files ≡ Some (Err (refusals.Usage kind))
-unfolding task_of
-of_no_words words files kind is = ap (λ (w : Result Wanted UsageKind). task_of_wanted w files) is
-
 -- what is so of every task
-of_any : (o : Option (Result Task Refusal)) (P : Result Task Refusal → Type 0) → ((task : Result Task Refusal) → P task) → OfTask o P
+pub of_any : (o : Option (Result Task Refusal)) (P : Result Task Refusal → Type 0) → ((task : Result Task Refusal) → P task) → OfTask o P
 of_any None P all = tt
 of_any (Some task) P all = all task
 
@@ -139,17 +133,6 @@ refused_words wanted (words.Usage kind) due = record {
   always = λ other e. let both : Err kind ≡ Err other = sym due ∙ e in let same : kind ≡ other = cc in inl (ap (λ (k : UsageKind). answers.Refused (refusals.Usage k)) same);
 }
 refused_words wanted words.NoMemory due = record { only = λ kind e. cc; always = λ kind e. inr refl }
-
-pub words_refuse : (t : Told) (texts : List (List ℕ)) (files : Files) (w : World) (first : PacerState) (fault : WordFault) → Answers (words_wanted texts) (Err fault) → t.input ≡ Some w.input → t.moments ≡ Some w.moments
-    → OfTask (task_of texts files) (λ task. Refuses t task w first (refusal_of_words fault) t first)
-words_refuse t texts files w first (words.Usage kind) due input moments =
-    subst (λ (o : Option (Result Task Refusal)). OfTask o (λ task. Refuses t task w first (refusals.Usage kind) t first)) (sym (of_no_words texts files kind due))
-    (refused_before t t (Err (refusals.Usage kind)) (refusals.Usage kind) w first first tt refl input moments refl)
-words_refuse t texts files w first words.NoMemory due input moments = of_any (task_of texts files) (λ task. Refuses t task w first refusals.NoMemory t first) (λ task. inl refl)
-
-pub words_decide : (texts : List (List ℕ)) (files : Files) (fault : WordFault) → Answers (words_wanted texts) (Err fault) → OfTask (task_of texts files) (λ task. IsDecided task (Err (refusal_of_words fault)))
-words_decide texts files (words.Usage kind) due = subst (λ (o : Option (Result Task Refusal)). OfTask o (λ task. IsDecided task (Err (refusals.Usage kind)))) (sym (of_no_words texts files kind due)) refl
-words_decide texts files words.NoMemory due = of_any (task_of texts files) (λ task. IsDecided task (Err refusals.NoMemory)) (λ task. tt)
 
 -- a refusal before a run, or before a text is written
 pub unready : (t new : Told) (task : Result Task Refusal) (w : World) (first now : PacerState) (refusal : Refusal) → IsBefore task refusal → t.input ≡ Some w.input → t.moments ≡ Some w.moments → new ≡ t
@@ -194,3 +177,13 @@ ran_decides task (Err (refusals.BudgetSpent n)) accepted late = accepted
 ran_decides task (Err refusals.InputFault) accepted late = accepted
 ran_decides task (Err (refusals.OutputFault port)) accepted late = accepted
 ran_decides task (Err refusals.ReportFault) accepted late = accepted
+
+-- a run that began is that of what is to be done
+pub ran : (t mid new : Told) (task : Result Task Refusal) (loaded : LoadedRun) (w : World) (first now : PacerState) (r : Result Done Refusal) (is : IsLoadedFor task loaded) → mid ≡ t → t.input ≡ Some w.input → t.moments ≡ Some w.moments
+    → (mid.input ≡ Some w.input → mid.moments ≡ Some w.moments → loaded.guest.machine ≡ machine_of loaded.image is.strings
+    → AttemptGives mid (Ok (Runs (program_by loaded.image is.strings (meaning_of loaded.image loaded.tool) loaded.how))) w first r new now)
+    → AttemptGives t task w first r new now
+ran t mid new task loaded w first now r is same input moments gives =
+    subst (λ (k : Result Task Refusal). AttemptGives t k w first r new now) (sym is.task_is)
+    (subst (λ (q : Told). AttemptGives q (Ok (Runs (program_by loaded.image is.strings (meaning_of loaded.image loaded.tool) loaded.how))) w first r new now) same
+    (gives (ap (λ (q : Told). q.input) same ∙ input) (ap (λ (q : Told). q.moments) same ∙ moments) is.machine_is))

@@ -1,6 +1,7 @@
 -- What the engine of a run answers, serial or by windows, and what it does to what a host tells and to what a pacer shows.
 use Rattle.std.specs.Prelude.{◌≡◌, ℕ, List, Result, Ok, Err}
 use Rattle.sp_host.specs.Told.{Told}
+use Rattle.elf_load.specs.Image.{ImageFields}
 use Rattle.guest_model.specs.Call.{World}
 use Rattle.guest_model.specs.Machine.{Machine}
 use Rattle.guest_model.specs.Serial.{Position, TraceItem, trace_of}
@@ -11,7 +12,7 @@ use Rattle.serial_run.specs.Run.{EndsAt, RunFails, StepBefore}
 use Rattle.serial_run.specs.Start.{start_of}
 use Rattle.serial_run.specs.Steps.{WantsMemory}
 use Rattle.sp_report.specs.Lines.{end_by}
-use Rattle.sp_words.specs.Due.{Engine, limits_in}
+use Rattle.sp_words.specs.Due.{Engine, Program, limits_in}
 use Rattle.sp_words.specs.Options.{bounds_of}
 use Rattle.sp_words.specs.Run.{IsSlicedBy, Run, Slicing, ToolMeaning, slicing_of, steps_of}
 use Rattle.sp_words.specs.declared.asked.By.{By}
@@ -23,6 +24,10 @@ use Rattle.sliced_run.specs.Sliced.{StandsBetween, SlicedFail}
 -- how a run is made, over plain data
 abbrev pub engine_by : How → Engine
 engine_by how = record { by = how.by; bounds = bounds_of how.limits; msec = how.msec; slices = how.slices }
+
+-- the program of an image with these strings, whose tool means this
+abbrev pub program_by : ImageFields → List (List ℕ) → ToolMeaning → How → Program
+program_by image strings tool how = record { image = image; strings = strings; tool = tool; engine = engine_by how }
 
 -- the run of a machine with a tool
 abbrev pub run_from : Machine → ToolMeaning → Engine → World → Run

@@ -3,3 +3,4 @@ pub mod Causes
 pub mod Engine
 pub mod Outcome
 pub mod Top
+pub mod Answered

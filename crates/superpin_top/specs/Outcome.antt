@@ -32,9 +32,12 @@ use Rattle.superpin_top.specs.declared.engine.Done.{Done}
 abbrev pub WhereAllTold : Told → (Files → World → Type 0) → Type 0
 WhereAllTold t P = (files : Files) (w : World) → t.files ≡ Some files → t.input ≡ Some w.input → t.moments ≡ Some w.moments → P files w
 
--- the same, and of what the words ask for where that is no demonstration
+-- the same, and of what is asked for where that is no demonstration
+abbrev pub WhereTask : Told → (Files → Option (Result Task Refusal)) → (Result Task Refusal → World → Type 0) → Type 0
+WhereTask t task_at P = WhereAllTold t (λ files w. OfTask (task_at files) (λ task. P task w))
+
 abbrev pub WhereDue : Told → List (List ℕ) → (Result Task Refusal → World → Type 0) → Type 0
-WhereDue t words P = WhereAllTold t (λ files w. OfTask (task_of words files) (λ task. P task w))
+WhereDue t words P = WhereTask t (task_of words) P
 
 -- the due answer is this one, and its bytes but for the report were written
 pub record IsDue (t : Told) (d : Due) (answer : Answer) (new : Told) : Type 0 where

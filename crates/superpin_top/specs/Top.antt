@@ -11,10 +11,13 @@ use Rattle.sp_report.specs.declared.answer.Refusal.{Refusal}
 use Rattle.sp_report.specs.declared.answer.Refusal.TheVariants as refusals
 use Rattle.sp_report.specs.declared.answer.UsageKind.{UsageKind}
 use Rattle.sp_words.specs.Asked.{RunWanted, Wanted}
+use Rattle.sp_words.specs.Tools.{meaning_of}
 use Rattle.superpin_top.specs.Due.{Task, Runs, program_of, strings_of}
+use Rattle.superpin_top.specs.Engine.{program_by}
 use Rattle.superpin_top.specs.Outcome.{OfText}
 use Rattle.superpin_top.specs.declared.engine.Done.{Done}
-use Rattle.superpin_top.specs.declared.top.Loaded.{Loaded}
+use Rattle.superpin_top.specs.declared.load.Loaded.{Loaded}
+use Rattle.superpin_top.specs.declared.load.LoadedRun.{LoadedRun}
 
 -- the bytes of a file, or that they are too many
 abbrev pub ReadGives : List ℕ → Result (Vec ℕ Global) Refusal → Type 0
@@ -44,6 +47,16 @@ ImageGives file (Err _) = ⊥
 abbrev pub LoadGives : Result Task Refusal → RunWanted → Result Loaded Refusal → Type 0
 LoadGives task r (Ok loaded) = (task ≡ Ok (Runs (program_of loaded.image r))) × (loaded.guest.machine ≡ machine_of loaded.image (strings_of r))
 LoadGives task r (Err refusal) = IsBefore task refusal
+
+-- what is to be done is the run of this program, which stands where it begins
+pub record IsLoadedFor (task : Result Task Refusal) (loaded : LoadedRun) : Type 0 where
+  pub strings : List (List ℕ)
+  pub task_is : task ≡ Ok (Runs (program_by loaded.image strings (meaning_of loaded.image loaded.tool) loaded.how))
+  pub machine_is : loaded.guest.machine ≡ machine_of loaded.image strings
+
+abbrev pub RunLoads : Result Task Refusal → Result LoadedRun Refusal → Type 0
+RunLoads task (Ok loaded) = IsLoadedFor task loaded
+RunLoads task (Err refusal) = IsBefore task refusal
 
 -- the text that is to be shown, or the refusal before it is written
 abbrev pub TextGives : Result Task Refusal → Result (Vec ℕ Global) Refusal → Type 0

@@ -31,21 +31,21 @@ use window_run::run_windows;
 
 /// How a run is made, and what is reported of it.
 #[derive(Clone, Copy)]
-pub(crate) struct How {
-    pub(crate) by: By,
-    pub(crate) limits: Limits,
+pub struct How {
+    pub by: By,
+    pub limits: Limits,
     /// The period of the pacer, in milliseconds.
-    pub(crate) msec: u32,
+    pub msec: u32,
     /// Whether the lines of the slices are reported.
-    pub(crate) slices: bool,
+    pub slices: bool,
 }
 
 /// A command that was done: its status, and the cuts and the lines of its run.
 #[derive(Drop)]
-pub(crate) struct Done {
-    pub(crate) status: u8,
-    pub(crate) cuts: Cuts,
-    pub(crate) lines: Lines,
+pub struct Done {
+    pub status: u8,
+    pub cuts: Cuts,
+    pub lines: Lines,
 }
 
 /// How many frames the guest of a run gets.

@@ -7,7 +7,8 @@ ghost use Rattle.sp_words.specs.Asked.{words_wanted};
 ghost use Rattle.superpin_top.specs.Due.{demo_wanted, texts};
 ghost use Rattle.superpin_top.specs.Outcome.{DemoOutcome, Outcome, WhereDue, WritesLine};
 
-use crate::top::{refuse, superpin};
+use crate::answer::refuse;
+use crate::top::superpin;
 use sp_host::{Host, Pacer, StdHost, TimePacer};
 use sp_report::{Answer, Refusal, UsageKind, exit_code};
 use std::alloc::Global;
@@ -42,15 +43,21 @@ pub fn answer_words<H: Host + Send, P: Pacer + Send, R: Threads + Sync>(
             let answer = superpin(rt, alloc, &words, host, pacer);
             exit_code(&answer)
         }
-        Err(refusal) => {
-            refuse(host, &refusal);
-            exit_code(&Answer::Refused(refusal))
-        }
+        Err(refusal) => refuse_words(host, refusal),
     }
 }
 
-// The command words without the program's own name. Words that are no UTF-8 text are in no form.
-fn command_words(rt: &HostRuntime) -> Result<Vec<String>, Refusal> {
+/// Says why words could not be read, and gives the exit status.
+pub fn refuse_words<H: Host>(host: &mut H, refusal: Refusal) -> u8
+    ensures { (result ≡ 125) ×
+        WritesLine refusal (H.told host.old) (H.told host.new) (H.faults host.old) (H.faults host.new) }
+{
+    refuse(host, &refusal);
+    exit_code(&Answer::Refused(refusal))
+}
+
+/// The command words without the program's own name. Words that are no UTF-8 text are in no form.
+pub fn command_words(rt: &HostRuntime) -> Result<Vec<String>, Refusal> {
     let args = match env::args(rt) {
         Ok(args) => args,
         Err(e) if e.kind() == ErrorKind::OutOfMemory => return Err(Refusal::NoMemory),

@@ -1,82 +1,30 @@
 // From the words to the answer.
-ghost use Rattle.std.specs.Prelude.{◌≡◌, ◌≢◌, ◌<◌, ◌≤◌, ◌↔◌, ◌^◌, ◌-◌, ℕ, [], length};
-ghost use Rattle.std.specs.Prelude.{None, Some, IfOk, IfErr, MatchResult};
+ghost use Rattle.std.specs.Prelude.{◌≡◌, ◌≢◌, ◌<◌, ◌↔◌, ◌^◌, ◌-◌, ℕ, []};
+ghost use Rattle.std.specs.Prelude.{Some, IfOk, IfErr, MatchResult};
 ghost use Rattle.sp_host.specs.Told.{WhereTold, file_of};
 ghost use Rattle.sp_host.specs.Faults.{To, count_of};
-ghost use Rattle.sp_host.specs.Whole.{most_file};
-ghost use Rattle.guest_mem.specs.Frames.{free_frames};
-ghost use Rattle.sp_words.specs.Asked.{RunWanted, run_of_asked, words_wanted};
+ghost use Rattle.sp_words.specs.Asked.{run_of_asked, words_wanted};
 ghost use Rattle.sliced_run.specs.Sliced.{shows};
-ghost use Rattle.superpin_top.specs.Causes.{CausedBy, cause_of};
-ghost use Rattle.superpin_top.specs.Due.{OfTask, by_wanted, demo_wanted, due_task, run_task, slicing_in, strings_of, task_of, texts};
-ghost use Rattle.superpin_top.specs.Outcome.{WhereAllTold, WhereDue, AttemptGives, WritesLine, Outcome, DemoOutcome, DemoTells};
+ghost use Rattle.superpin_top.specs.Answered.{IsAttempt};
+ghost use Rattle.superpin_top.specs.Causes.{CausedBy};
+ghost use Rattle.superpin_top.specs.Due.{OfTask, by_wanted, demo_wanted, due_task, run_task, slicing_in, task_of, texts};
+ghost use Rattle.superpin_top.specs.Outcome.{WhereAllTold, WhereDue, AttemptGives, Outcome, DemoOutcome, DemoTells};
 ghost use Rattle.superpin_top.specs.Outcome.{CanRise, NoneRose, IsDelivered, IsDecided, IsEarly, IsCaused};
 ghost use Rattle.superpin_top.specs.Outcome.{AddsFront, IsEndedWhereNone, TellsSlices};
-ghost use Rattle.superpin_top.specs.Top.{IsOfWords, IsPastWords, LoadGives, answer_by, cuts_in};
+ghost use Rattle.superpin_top.specs.Top.{IsOfWords, IsPastWords, cuts_in};
 
-use crate::engine::{Done, How, frames_of};
-use crate::file::{load_image, read_program};
+use crate::answer::answer_attempt;
+use crate::engine::Done;
+use crate::load::{LoadedRun, load_run};
 use crate::run::run_loaded;
 use crate::show::demo_asked;
 use crate::view::view_asked;
-use crate::words::{refusal_of_words, strings_of};
-use elf_load::Image;
-use rv_machine::{Guest, LoadFault};
-use sp_host::{Host, Pacer, Port, write_whole};
-use sp_report::{Answer, Refusal, refusal_line};
+use crate::words::refusal_of_words;
+use sp_host::{Host, Pacer, Port};
+use sp_report::{Answer, Refusal};
 use sp_words::{Asked, By, RunAsked, read_words};
 use std::alloc::Global;
 use std::thread::Threads;
-
-// A program that was accepted, at the start of its run.
-#[derive(Drop)]
-pub(crate) struct Loaded {
-    pub(crate) image: Image,
-    pub(crate) guest: Guest,
-}
-
-// The program of a file, at the start of its run, with these strings and so many frames.
-fn start(alloc: Global, file: &[u8], strings: &[String], frames: u32) -> Result<Loaded, Refusal>
-    requires { length file.now ≤ most_file }
-    ensures loaded { (r : RunWanted) → strings_of r ≡ texts strings.now
-        → LoadGives (run_task file.now r) r result }
-    ensures frames { IfOk result (λ loaded. loaded.guest.frames ≡ free_frames frames) }
-    ensures cause { IfErr result (λ e. cause_of e ≡ None) }
-    ensures past { IfErr result IsPastWords }
-{
-    let image = match load_image(alloc, file) {
-        Ok(image) => image,
-        Err(refusal) => return Err(refusal),
-    };
-    match Guest::load(alloc, &image, strings, frames) {
-        Ok(guest) => Ok(Loaded { image, guest }),
-        Err(LoadFault::ArgsTooLong { bytes }) => Err(Refusal::ArgsTooLong { bytes }),
-        Err(LoadFault::NoMemory) => Err(Refusal::NoMemory),
-    }
-}
-
-// The program that the first of these strings names, at the start of its run, with these strings and so many frames.
-fn ready<H: Host>(
-    alloc: Global,
-    strings: &[String],
-    frames: u32,
-    host: &mut H,
-) -> Result<Loaded, Refusal>
-    requires { 0 < length strings.now }
-    ensures told { H.told host.new ≡ H.told host.old }
-    ensures loaded { (r : RunWanted) → strings_of r ≡ texts strings.now
-        → WhereTold (H.told host.old).files (λ files. LoadGives (run_task (file_of files r.file) r) r result) }
-    ensures frames { IfOk result (λ loaded. loaded.guest.frames ≡ free_frames frames) }
-    ensures faults { MatchResult result (λ _. H.faults host.new ≡ H.faults host.old)
-        (λ e. CausedBy e (H.faults host.old) (H.faults host.new)) }
-    ensures past { IfErr result IsPastWords }
-{
-    let file = match read_program(alloc, host, strings[0].as_str()) {
-        Ok(file) => file,
-        Err(refusal) => return Err(refusal),
-    };
-    start(alloc, &file, strings, frames)
-}
 
 // The run that is asked for, with its report.
 fn run_asked<H: Host + Send, P: Pacer + Send, R: Threads + Sync>(
@@ -98,19 +46,14 @@ fn run_asked<H: Host + Send, P: Pacer + Send, R: Threads + Sync>(
     ensures serial { run.by ≡ By.Serial → pacer.new ≡ pacer.old }
     ensures uncut { run.by ≡ By.Serial → IfOk result (λ done. done.cuts ≡ []) }
 {
-    let how = How {
-        by: run.by,
-        limits: run.limits,
-        msec: run.msec,
-        slices: run.slices,
-    };
-    let tool = run.tool;
-    let Ok(strings) = strings_of(alloc, run.file, run.args) else {
-        return Err(Refusal::NoMemory);
-    };
-    match ready(alloc, &strings, frames_of(&how), host) {
+    match load_run(alloc, run, host) {
         Ok(loaded) => {
-            let Loaded { image, guest } = loaded;
+            let LoadedRun {
+                image,
+                guest,
+                how,
+                tool,
+            } = loaded;
             run_loaded(rt, alloc, host, pacer, &image, guest, how, tool)
         }
         Err(refusal) => Err(refusal),
@@ -125,15 +68,11 @@ fn attempt<H: Host + Send, P: Pacer + Send, R: Threads + Sync>(
     host: &mut H,
     pacer: &mut P,
 ) -> Result<Done, Refusal>
-    ensures words { IsOfWords (words_wanted (texts words.now)) (answer_by result) }
-    ensures early { WhereTold (H.told host.old).files (λ files.
-        OfTask (task_of (texts words.now) files) (λ task. IsDecided task result)) }
-    ensures told { WhereDue (H.told host.old) (texts words.now) (λ task w.
-        AttemptGives (H.told host.old) task w
-        (shows (P.period_shown pacer.old) (P.tally pacer.old) (P.answers pacer.old)) result (H.told host.new)
-        (shows (P.period_shown pacer.new) (P.tally pacer.new) (P.answers pacer.new))) }
-    ensures faults { MatchResult result (λ _. H.faults host.new ≡ H.faults host.old)
-        (λ e. CausedBy e (H.faults host.old) (H.faults host.new)) }
+    ensures tried { IsAttempt (words_wanted (texts words.now)) (task_of (texts words.now))
+        (H.told host.old) (H.faults host.old)
+        (shows (P.period_shown pacer.old) (P.tally pacer.old) (P.answers pacer.old))
+        result (H.told host.new) (H.faults host.new)
+        (shows (P.period_shown pacer.new) (P.tally pacer.new) (P.answers pacer.new)) }
     ensures demo { (n : ℕ) → demo_wanted (words_wanted (texts words.now)) ≡ Some n
         → DemoTells n (H.told host.old) result (H.told host.new) }
     ensures serial { by_wanted (words_wanted (texts words.now)) ≢ Some By.Windows → pacer.new ≡ pacer.old }
@@ -145,17 +84,6 @@ fn attempt<H: Host + Send, P: Pacer + Send, R: Threads + Sync>(
         Ok(Asked::View { file }) => view_asked(alloc, file.as_str(), host),
         Ok(Asked::Demo { n }) => demo_asked(rt, alloc, n, host),
         Err(fault) => Err(refusal_of_words(fault)),
-    }
-}
-
-/// Writes the line of a refusal to the port of reports, as far as it can be written.
-pub(crate) fn refuse<H: Host>(host: &mut H, refusal: &Refusal)
-    ensures { WritesLine refusal.now (H.told host.old) (H.told host.new) (H.faults host.old) (H.faults host.new) }
-{
-    let line = refusal_line(refusal);
-    match write_whole(host, Port::Report, line.as_slice()) {
-        Ok(()) => {}
-        Err(_) => {}
     }
 }
 
@@ -240,15 +168,6 @@ pub fn superpin<H: Host + Send, P: Pacer + Send, R: Threads + Sync>(
     ensures demo { (n : ℕ) → demo_wanted (words_wanted (texts words.now)) ≡ Some n
         → DemoOutcome n (H.told host.old) (H.faults host.old) result (H.told host.new) (H.faults host.new) }
 {
-    match attempt(rt, alloc, words, host, pacer) {
-        Ok(done) => Answer::Ended {
-            status: done.status,
-            cuts: done.cuts,
-            lines: done.lines,
-        },
-        Err(refusal) => {
-            refuse(host, &refusal);
-            Answer::Refused(refusal)
-        }
-    }
+    let tried = attempt(rt, alloc, words, host, pacer);
+    answer_attempt(host, tried)
 }

@@ -7,7 +7,7 @@ use sp_words::{Arguments, FileName, WordFault};
 use std::alloc::{AllocError, Global};
 
 /// The refusal of a fault of the words.
-pub(crate) fn refusal_of_words(fault: WordFault) -> Refusal
+pub fn refusal_of_words(fault: WordFault) -> Refusal
     ensures { result ≡ refusal_of_words fault }
 {
     match fault {

@@ -1,7 +1,7 @@
 use Rattle.std.proofs.Common.{[], take, drop, inl, inr, refl, ◌∙◌}
 use Rattle.std.proofs.lemmas.List.{append-nil, take-append-drop}
 use Rattle.superpin_top.proofs.Texts.{some_left}
-use Rattle.superpin_top.proofs.top.refuse.Goals as goal
+use Rattle.superpin_top.proofs.answer.refuse.Goals as goal
 
 pub returns-in-Ok : goal.returns-in-Ok
 returns-in-Ok g c =

@@ -1,5 +1,5 @@
 use Rattle.superpin_top.proofs.Causes.{calm_result}
-use Rattle.superpin_top.proofs.top.ready.Goals as goal
+use Rattle.superpin_top.proofs.load.ready.Goals as goal
 
 pub returns-clause-faults : goal.returns-clause-faults
 returns-clause-faults g c =
