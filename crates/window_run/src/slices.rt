@@ -9,7 +9,7 @@ ghost use Rattle.window_run.specs.Jobs.{AreJobs, IsResultOf, MergesJobs};
 use boundary_verify::Job;
 use insert_points::Plan;
 use ordered_merge::Merger;
-use slice_runner::{open_slice, run_slice};
+use sliced_run::run_job;
 use std::alloc::{AllocError, Global};
 use std::mem;
 use std::sync::atomic::{AtomicBool, Ordering};
@@ -22,14 +22,6 @@ pub(crate) struct Work<'a, T: Tool> {
     pub(crate) alloc: Global,
     pub(crate) plan: &'a Plan,
     pub(crate) tool: &'a T,
-}
-
-// The piece of a job.
-fn run_one<T: Tool>(work: &Work<'_, T>, job: Job) -> Result<Piece<T>, AllocError>
-    ensures { IfOk result (IsPieceOf (T.is_local work.now.tool.now) work.now.plan.now job) }
-{
-    let slice = open_slice(work.alloc, work.plan, job, work.tool)?;
-    run_slice(work.plan, work.tool, slice)
 }
 
 // The pieces of jobs, place by place.
@@ -49,7 +41,7 @@ fn run_each<T: Tool, R: Threads + Sync>(
         &|job: Job| -> Result<Piece<T>, AllocError>
             ensures { IfOk result
                 (IsPieceOf (T.is_local work.entry.now.tool.now) work.entry.now.plan.now job) }
-        { run_one(work, job) },
+        { run_job(work.alloc, work.plan, work.tool, job) },
     )
 }
 

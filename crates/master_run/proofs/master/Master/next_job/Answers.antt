@@ -1,10 +1,12 @@
-use Rattle.std.proofs.Common.{subst, sym}
+use Rattle.std.proofs.Common.{◌-◌, subst, sym}
+use Rattle.std.specs.Prelude.{IfOk}
 use Rattle.sp_host.specs.Told.{Told}
 use Rattle.master_run.proofs.Begins.{hands_free, met_soon, standing_free}
 use Rattle.master_run.specs.Answers.{PacerState}
 use Rattle.master_run.specs.Inside.{seen_of}
 use Rattle.master_run.specs.Master.{MasterState, HasRunTo, Over}
-use Rattle.master_run.specs.Turn.{HandsOutOfRun}
+use Rattle.master_run.specs.Turn.{HandsOutOfRun, IsMetWithin}
+use Rattle.master_run.specs.declared.master.Stage.TheVariants as stages
 use Rattle.master_run.proofs.master.Master.next_job.Goals as goal
 
 pub returns-in-Ready-clause-told : goal.returns-in-Ready-clause-told
@@ -22,6 +24,6 @@ returns-in-Ready-clause-told g c t p first ready h =
 
 pub returns-in-Ready-clause-soon : goal.returns-in-Ready-clause-soon
 returns-in-Ready-clause-soon g c =
-    let old : MasterState = seen_of c.self.inside.limits c.self.inside.progress c.self.inside.cuts.items Over in
+    let old : MasterState = seen_of c.self.inside.limits c.self.inside.progress c.self.inside.cuts.items stages.Over in
     let later : MasterState = seen_of c.self.inside.limits c.make_turn-stage.new.progress c.make_turn-stage.new.cuts.items c.make_turn-stage.result.0 in
-    ?
+    subst (λ (k : MasterState). IfOk c.make_turn-stage.result.1 (IsMetWithin (later.position - k.position))) c.self.view_is (met_soon old later c.make_turn-stage.result.1 c.make_turn-stage.ensures.turn)
