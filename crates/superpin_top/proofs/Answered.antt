@@ -1,9 +1,11 @@
 -- From an attempt to its answer.
-use Rattle.std.proofs.Common.{◌≡◌, ◌≢◌, ap, arith}
+use Rattle.std.proofs.Common.{◌≡◌, ◌≢◌, ℕ, ap, arith}
 use Rattle.std.specs.Prelude.{Option, Result, Ok, Err}
 use Rattle.sp_host.specs.Told.{Files, Told}
 use Rattle.sp_host.specs.Faults.{Faults, File, Input, To, count_of}
+use Rattle.guest_model.specs.Call.{World}
 use Rattle.master_run.specs.Answers.{PacerState}
+use Rattle.sp_report.specs.Answer.{exit_code_of}
 use Rattle.sp_report.specs.declared.answer.Answer.{Answer}
 use Rattle.sp_report.specs.declared.answer.Answer.TheVariants.{Ended, Refused}
 use Rattle.sp_report.specs.declared.answer.Refusal.{Refusal}
@@ -11,7 +13,7 @@ use Rattle.sp_report.specs.declared.answer.Refusal.TheVariants.{NoMemory}
 use Rattle.sp_report.specs.declared.answer.UsageKind.{UsageKind}
 use Rattle.sp_words.specs.Asked.{Wanted}
 use Rattle.superpin_top.specs.Answered.{IsAnswered, IsAttempt}
-use Rattle.superpin_top.specs.Due.{Task, due_task, not_sliced}
+use Rattle.superpin_top.specs.Due.{OfTask, Task, due_task, not_sliced}
 use Rattle.superpin_top.specs.Outcome.{AddsFront, AttemptGives, CanRise, IsCaused, IsDecided, IsDelivered, IsEarly, NoneRose, Outcome, TellsSlices, WritesLine, done_slicing}
 use Rattle.superpin_top.specs.declared.engine.Done.{Done}
 use Rattle.superpin_top.proofs.Causes.{refused_where, port_where, report_rose, guests_port}
@@ -25,7 +27,7 @@ module _ (wanted : Result Wanted UsageKind) (task_at : Files → Option (Result 
   done_answers done new after now is =
       let answer : Answer = Ended done.status done.cuts done.lines in
       let s = done_slicing done in
-      let given = λ (task : Result Task Refusal). λ w. AttemptGives t task w first (Ok done) new now in
+      let given : Result Task Refusal → World → Type 0 = λ task w. AttemptGives t task w first (Ok done) new now in
       record {
         words = is.words;
         file_fault = λ below. ((λ e. cc), λ rose. absurd (omega (arith, rose, ap (λ (f : Faults). f.file) is.faults)));
@@ -55,7 +57,7 @@ module _ (wanted : Result Wanted UsageKind) (task_at : Files → Option (Result 
       → IsAnswered wanted task_at t before first (Refused refusal) new after now
   refused_answers refusal mid new middle after now is writes =
       let answer : Answer = Refused refusal in
-      let given = λ (task : Result Task Refusal). λ w. AttemptGives t task w first (Err refusal) mid now in
+      let given : Result Task Refusal → World → Type 0 = λ task w. AttemptGives t task w first (Err refusal) mid now in
       record {
         words = is.words;
         file_fault = λ below. refused_where File refusal mid new before middle after is.faults writes (λ e. cc) below;
@@ -81,3 +83,7 @@ module _ (wanted : Result Wanted UsageKind) (task_at : Files → Option (Result 
         error_front = λ files w files_are input moments. of_each (task_at files) (λ task. given task w) (λ task. AddsFront t.err (due_task task w not_sliced).err new.err)
             (λ task refuses. (refused_follows t task w first refusal before middle after mid new now refuses is.faults writes).fronts.err) (is.told files w files_are input moments);
       }
+
+-- a status that says an answer
+pub says_status : (o : Option (Result Task Refusal)) (P : Answer → Result Task Refusal → Type 0) (answer : Answer) (status : ℕ) → status ≡ exit_code_of answer → OfTask o (P answer) → OfTask o (λ task. (x : Answer) × (status ≡ exit_code_of x) × P x task)
+says_status o P answer status is holds = of_each o (P answer) (λ task. (x : Answer) × (status ≡ exit_code_of x) × P x task) (λ task p. (answer, is, p)) holds

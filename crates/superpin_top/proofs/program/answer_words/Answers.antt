@@ -7,7 +7,7 @@ use Rattle.sp_report.specs.declared.answer.Refusal.{Refusal}
 use Rattle.sliced_run.specs.Sliced.{shows}
 use Rattle.superpin_top.specs.Due.{OfTask, task_of, texts}
 use Rattle.superpin_top.specs.Outcome.{Outcome, WhereDue}
-use Rattle.superpin_top.proofs.Ready.{of_each}
+use Rattle.superpin_top.proofs.Answered.{says_status}
 use Rattle.superpin_top.proofs.program.answer_words.Goals as goal
 
 pub returns-in-Ok-clause-read : goal.returns-in-Ok-clause-read
@@ -21,7 +21,6 @@ returns-in-Ok-clause-read g c =
     let answer = c.superpin-answer.result in
     let tells = λ (words : List (String Global)). WhereDue t (texts words) (λ task w. (x : Answer) × (c.exit_code.result ≡ exit_code_of x) × Outcome t task w first before x new after now) in
     let here : tells c.in-Ok.words.items = λ files w files_are input moments.
-    of_each (task_of (texts c.in-Ok.words.items) files) (λ task. Outcome t task w first before answer new after now) (λ task. (x : Answer) × (c.exit_code.result ≡ exit_code_of x) × Outcome t task w first before x new after now)
-    (λ task o. (answer, c.exit_code.ensures, o))
+    says_status (task_of (texts c.in-Ok.words.items) files) (λ x task. Outcome t task w first before x new after now) answer c.exit_code.result c.exit_code.ensures
     (subst (λ (words : List (String Global)). OfTask (task_of (texts words) files) (λ task. Outcome t task w first before answer new after now)) c.deref.ensures.value (c.superpin-answer.ensures.outcome files w files_are input moments)) in
     subst (λ (r : Result (Vec (String Global) Global) Refusal). IfOk r (λ words. tells words.items)) (sym c.in-Ok.is) here

@@ -51,11 +51,11 @@ returns-in-Ok-write_whole-clause-told g c t w image strings first now input mome
     let whole = c.deref.ensures.value ∙ (c.in-Ok-report.ensures (trace_events calls c.args.views.now (trace_of r.budget r.start)) ends.value
     ∙ ap (λ (v : ViewFields). report_of c.args.how.slices (g.T.Tool.text_of c.args.tool.now v (g.T.Tool.value c.args.tool.now (trace_events calls v (trace_of r.budget r.start)))) (end_by finished.end) finished.lines.items) views_are) in
     reported t p w first now finished.end mid (g.H.Host.told c.write_whole.new.host) (sliced_by finished) (p.tool.text (trace_of r.budget r.start)) c.deref.result.now
-    (record { status = c.status.result; cuts = c.new-in-Ok-write_whole.result; lines = c.new-in-Ok-write_whole-2.result }) done whole c.in-Ok-write_whole.ensures.told c.status.ensures
-    (ap (λ (cuts : List ℕ). record { cuts = cuts; lines = c.new-in-Ok-write_whole-2.result }) c.new-in-Ok-write_whole.ensures ∙ ap (λ (lines : List SliceLine). record { cuts = finished.cuts.items; lines = lines }) c.new-in-Ok-write_whole-2.ensures)
+    (record { status = c.status.result; cuts = c.new.result; lines = c.new-in-Ok-write_whole.result }) done whole c.in-Ok-write_whole.ensures.told c.status.ensures
+    (ap (λ (cuts : List ℕ). record { cuts = cuts; lines = c.new-in-Ok-write_whole.result }) c.new.ensures ∙ ap (λ (lines : List SliceLine). record { cuts = finished.cuts.items; lines = lines }) c.new-in-Ok-write_whole.ensures)
 
-pub returns-clause-told : goal.returns-clause-told
-returns-clause-told g c t w image strings first now input moments views_are gives =
+pub returns-in-Err-write_whole-clause-told : goal.returns-in-Err-write_whole-clause-told
+returns-in-Err-write_whole-clause-told g c t w image strings first now input moments views_are gives =
     let calls = g.T.Tool.calls_of c.args.tool.now in
     let text : List Event → List ℕ = λ xs. g.T.Tool.text_of c.args.tool.now (views_of image) (g.T.Tool.value c.args.tool.now xs) in
     let p : Program = program_by image strings (with_calls (views_of image) g.T.Tool.GROWS calls text) c.args.how in
@@ -79,6 +79,6 @@ pub returns-in-Ok-write_whole-clause-faults : goal.returns-in-Ok-write_whole-cla
 returns-in-Ok-write_whole-clause-faults g c before caused guests =
     c.in-Ok-write_whole.ensures.faults ∙ result_calm c.args.run c.in-Ok.finished before (g.H.Host.faults c.args.host.now) c.in-Ok.is caused
 
-pub returns-clause-faults : goal.returns-clause-faults
-returns-clause-faults g c before caused guests =
+pub returns-in-Err-write_whole-clause-faults : goal.returns-in-Err-write_whole-clause-faults
+returns-in-Err-write_whole-clause-faults g c before caused guests =
     subst (λ (f : Faults). CausedBy ReportFault f (g.H.Host.faults c.write_whole.new.host)) (result_calm c.args.run c.in-Ok.finished before (g.H.Host.faults c.args.host.now) c.in-Ok.is caused) (c.in-Err-write_whole.ensures.faults, tt)

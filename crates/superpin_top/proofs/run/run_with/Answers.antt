@@ -17,7 +17,7 @@ returns-clause-told g c w strings input moments begins =
     let text : List Event → List ℕ = λ xs. g.T.Tool.text_of c.args.tool.now (views_of c.args.image.now) (g.T.Tool.value c.args.tool.now xs) in
     let p : Program = program_by c.args.image.now strings (with_calls (views_of c.args.image.now) g.T.Tool.GROWS calls text) c.args.how in
     let first = shows (g.P.Pacer.period_shown c.args.pacer.now) (g.P.Pacer.tally c.args.pacer.now) (g.P.Pacer.answers c.args.pacer.now) in
-    let now = shows (g.P.Pacer.period_shown c.run_guest.new.pacer) (g.P.Pacer.tally c.run_guest.new.pacer) (g.P.Pacer.answers c.run_guest.new.pacer) in
-    let gives = subst (λ (r : Run). EngineGives (λ items s. g.T.Tool.is_value c.args.tool.now (trace_events calls c.in-Ok.planned.views items) s) t r first c.run_guest.result (g.H.Host.told c.run_guest.new.host) now)
-    (begun p c.args.guest.machine w begins) (c.run_guest.ensures.told p.tool.text t w (at_begin t w input moments)) in
+    let now = shows (g.P.Pacer.period_shown c.run_guest-run.new.pacer) (g.P.Pacer.tally c.run_guest-run.new.pacer) (g.P.Pacer.answers c.run_guest-run.new.pacer) in
+    let gives = subst (λ (r : Run). EngineGives (λ items s. g.T.Tool.is_value c.args.tool.now (trace_events calls c.in-Ok.planned.views items) s) t r first c.run_guest-run.result (g.H.Host.told c.run_guest-run.new.host) now)
+    (begun p c.args.guest.machine w begins) (c.run_guest-run.ensures.told p.tool.text t w (at_begin t w input moments)) in
     c.finish.ensures.told t w c.args.image.now strings first now input moments c.in-Ok.ensures.views gives
