@@ -1,21 +1,18 @@
 -- What words with workers ask for: a run by windows, and nothing else.
 use Rattle.std.proofs.Common.{◌≡◌, ◌∷◌, ℕ, List, [], refl, ap, sym, length, ◌∙◌}
-use Rattle.std.specs.Prelude.{Bool, true, false, codes, if◌then◌else◌, nat_le, Option, Some, Result, Ok, Err}
+use Rattle.std.specs.Prelude.{Bool, true, false, codes, if◌then◌else◌, nat_le, Result, Ok, Err}
 use Rattle.std.specs.Str.{bytes_eq}
-use Rattle.clap.specs.Simple.{App, matches_of}
-use Rattle.clap.specs.Walk.{Row}
+use Rattle.clap.specs.Simple.{matches_of}
 use Rattle.sp_host.specs.Told.{Files}
 use Rattle.sp_report.specs.declared.answer.OptionName.{OptionName}
-use Rattle.sp_report.specs.declared.answer.Refusal.{Refusal}
 use Rattle.sp_report.specs.declared.answer.UsageKind.{UsageKind}
-use Rattle.sp_report.specs.declared.answer.UsageKind.TheVariants.{Form, NoCommand, UnknownCommand}
-use Rattle.sp_words.specs.Asked.{ToDemo, ToRun, ToView, Wanted, in_form, is_in_form, live_words_wanted, run_wanted, run_with}
+use Rattle.sp_report.specs.declared.answer.UsageKind.TheVariants.{Form, UnknownCommand}
+use Rattle.sp_words.specs.Asked.{ToDemo, ToRun, ToView, Wanted, is_in_form, live_words_wanted, run_wanted, run_with}
 use Rattle.sp_words.specs.Commands.{live_app}
 use Rattle.sp_words.specs.Options.{Common, Values, common_in, live_values, on_value, workers_in}
 use Rattle.sp_words.specs.Split.{Text, option_words, positionals}
-use Rattle.sp_words.specs.declared.asked.By.{By}
 use Rattle.sp_words.specs.declared.asked.By.TheVariants.{Windows}
-use Rattle.superpin_top.specs.Due.{Task, task_of_wanted}
+use Rattle.superpin_top.specs.Due.{task_of_wanted}
 use Rattle.superpin_live_top.specs.Due.{live_task_of}
 
 pub task_is : (words : List (List ℕ)) (files : Files) → live_task_of words files ≡ task_of_wanted (live_words_wanted words) files
