@@ -1,4 +1,6 @@
+use denote.Param.Send.{sendable}
 use Rattle.std.proofs.Common.{sym, subst}
+use Rattle.live_run.proofs.Sent.{job_send}
 use Rattle.serial_run.specs.Start.{start_of}
 use Rattle.sliced_run.proofs.Faults.{lacks_at_start}
 use Rattle.sliced_run.specs.Sliced.{shows}
@@ -21,3 +23,6 @@ returns-in-Err-clause-told g c text t w told =
     let r = run_from c.args.guest.machine (record { text = text; grows = g.T.Tool.GROWS }) (engine_by c.args.how) w in
     subst (λ (b : By). EngineFails b r t NoMemory (g.H.Host.told c.args.host.now)) (sym c.requires.by)
     (lacks_at_start t (start_of c.args.guest.machine w) (g.H.Host.told c.args.host.now) r.budget told)
+
+pub create-requires-send-J : goal.create-requires-send-J
+create-requires-send-J g c κs within = search (sendable, job_send)
