@@ -5,9 +5,10 @@
 #
 # tries the cases FIRST to FIRST + COUNT - 1 of the seed, by default 10,000 cases from 0 on of the seed 1. A case is the same each time,
 # as long as the examples are: those of the repository, and those that guest/check.sh compiled to guest/out, where they are there. Each
-# is run serially and by windows, and where SUPERPIN_LIVE names that program, live with three workers too. The exit status, the standard
+# is run serially and by windows, and where SUPERPIN_LIVE names that program, live with some workers too. The exit status, the standard
 # output and the standard error must be the same byte for byte, but for lines of slices, which must have as many instructions together
-# as the serial run. A signal, a run of more than a minute, or of more than 8 GiB of addresses, memory out of proportion, an answer
+# as the serial run. Some are run once more with memory refused, where there is a C compiler; each of these must do the same or answer that
+# there is no memory, with a beginning of the same outputs. A signal, a run of more than a minute, or of more than 8 GiB of addresses, memory out of proportion, an answer
 # without an end line or the line of a refusal, and whatever differs, is a failure: it is printed with its seed and number, and its
 # files, words and outputs are kept in KEEP, by default a folder hostile-kept in the folder for temporary files.
 #
@@ -38,4 +39,12 @@ if [ -n "${SUPERPIN_LIVE:-}" ]; then
     live=(--live "$(readlink -f "$(command -v "$SUPERPIN_LIVE")")") || fail "SUPERPIN_LIVE is no program: $SUPERPIN_LIVE"
 fi
 mkdir -p "$keep"
-exec python3 -B "$extras/hostile" --superpin "$superpin" "${live[@]}" --keep "$keep" "$@"
+refuse=()
+if command -v cc >/dev/null; then
+    cc -O2 -shared -fPIC -o "$keep/refuse.$$.so" "$extras/hostile/refuse.c" || fail 'refuse.c was not compiled'
+    trap 'rm -f "$keep/refuse.$$.so"' EXIT
+    refuse=(--refuse "$(readlink -f "$keep")/refuse.$$.so")
+else
+    echo 'hostile.sh: there is no cc, so no memory is refused' >&2
+fi
+python3 -B "$extras/hostile" --superpin "$superpin" "${live[@]}" "${refuse[@]}" --keep "$keep" "$@"

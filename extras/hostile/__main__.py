@@ -11,12 +11,15 @@ import tempfile
 import cases
 import running
 
+REFUSED = ' with memory refused'
+
 
 def arguments():
     """What the command asks for."""
     parser = argparse.ArgumentParser(prog='hostile.sh')
     parser.add_argument('--superpin', required=True)
     parser.add_argument('--live', default='')
+    parser.add_argument('--refuse', default='')
     parser.add_argument('--keep', required=True)
     parser.add_argument('--seconds', type=float, default=60)
     parser.add_argument('--memory', type=int, default=8192)
@@ -42,8 +45,18 @@ def ways_of(asked, case):
         return {'first': [asked.superpin, *case.words], 'second': [asked.superpin, *case.words]}
     ways = {way: [asked.superpin, 'run', '--by', way, *case.words] for way in ('serial', 'windows')}
     if asked.live:
-        ways['live'] = [asked.live, 'run', '--workers', '3', *case.words]
+        ways['live'] = [asked.live, 'run', '--workers', str(case.workers), *case.words]
+    if asked.refuse and case.refused:
+        ways.update({way + REFUSED: words for way, words in ways.items()})
     return ways
+
+
+def environment(asked, case, name):
+    """The variables of a run, or None for the usual ones."""
+    if not name.endswith(REFUSED):
+        return None
+    at, on = case.refused
+    return dict(os.environ, LD_PRELOAD=asked.refuse, REFUSE_AT=str(at), **({'REFUSE_ON': '1'} if on else {}))
 
 
 def without_counts(done):
@@ -57,7 +70,7 @@ def wrong_in(case, runs):
     """What is wrong with the runs of a case, the first of which is the one to compare with; or None."""
     steps = None
     for name, done in runs.items():
-        serial = name in ('serial', 'first', 'second')
+        serial = name.startswith(('serial', 'first', 'second'))
         is_run = case.ways or case.words[:1] == ['run']
         bad = running.wrong_alone(done, most_memory(case, serial), is_run) or running.wrong_slices(done, steps)
         if bad:
@@ -69,7 +82,7 @@ def wrong_in(case, runs):
     for name, done in others:
         pair = (without_counts(first), without_counts(done)) if case.clocked else (first, done)
         bad = running.differs(*pair)
-        if bad:
+        if bad and not (name.endswith(REFUSED) and running.is_without_memory(first, done)):
             return f'{name}: {bad}'
     return None
 
@@ -78,12 +91,10 @@ def run_ways(asked, case, folder):
     """Makes the runs of a case."""
     runs = {}
     for name, words in ways_of(asked, case).items():
+        given = os.open('/', os.O_RDONLY) if case.given is None else case.given
+        runs[name] = running.run(words, folder, asked, given, case.out_name, environment(asked, case, name))
         if case.given is None:
-            given = os.open('/', os.O_RDONLY)
-            runs[name] = running.run(words, folder, asked, given, case.out_name)
             os.close(given)
-        else:
-            runs[name] = running.run(words, folder, asked, case.given, case.out_name)
     return runs
 
 
@@ -96,7 +107,7 @@ def keep(asked, case, number, folder, runs, bad):
         with open(os.path.join(kept, 'input'), 'wb') as file:
             file.write(case.given)
     with open(os.path.join(kept, 'words'), 'w', encoding='utf-8') as file:
-        print(f'{case.kind}: {bad}', *(repr(words) for words in ways_of(asked, case).values()), sep='\n', file=file)
+        print(f'{case.kind}: {bad}', f'memory refused: {case.refused}', *(repr(words) for words in ways_of(asked, case).values()), sep='\n', file=file)
     for name, done in runs.items():
         for part, data in (('out', done.out), ('err', done.err), ('status', f'{done.status}\n'.encode())):
             with open(os.path.join(kept, f'{name}.{part}'), 'wb') as file:

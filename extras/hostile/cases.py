@@ -33,6 +33,10 @@ class Case:
         self.ways = ways
         self.grown = {}
         self.out_name = None
+        # which request for memory is refused, if any, and whether each later one is, too
+        self.refused = None
+        # of a live run
+        self.workers = 1
         self.clocked = False
         self.limit, self.frames, self.listed = 8, 4096, 0
 
@@ -187,13 +191,23 @@ def outside(rng):
     return case.schedule(rng, 10_000)
 
 
-KINDS = (damaged,) * 5 + (words,) * 3 + (program,) * 7 + (schedule,) * 3 + (outside,) * 2
+def memory(rng):
+    """A random program or an example to which memory is refused, once or from then on."""
+    case = rng.choice((program, program, schedule))(rng)
+    case.kind = 'memory'
+    case.refused = int(10 ** rng.uniform(0, 4)), rng.random() < 0.5
+    return case
+
+
+KINDS = (damaged,) * 5 + (words,) * 3 + (program,) * 7 + (schedule,) * 3 + (outside,) * 2 + (memory,) * 2
 
 
 def case_of(seed, number):
     """The case with this number of a seed."""
     rng = random.Random(f'{seed} {number}')
-    return rng.choice(KINDS)(rng)
+    case = rng.choice(KINDS)(rng)
+    case.workers = rng.choice((1, 1, 2, 3, 4, 8, 16))
+    return case
 
 
 def place(case, folder):

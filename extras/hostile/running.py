@@ -57,9 +57,9 @@ def await_end(child, seconds):
         pause = min(pause * 1.5, 0.02)
 
 
-def run(words, folder, limits, given, out_name=None):
-    """Runs the words in the folder, with these bytes, or this open file, as its input. Its outputs go to files there; the standard
-    output to the file that is named, where one is. The status is None where the time was over."""
+def run(words, folder, limits, given, out_name=None, environment=None):
+    """Runs the words in the folder, with these bytes, or this open file, as its input, and with these variables or the usual ones. The
+    standard output goes to the file that is named, where one is. The status is None where the time was over."""
     with tempfile.TemporaryFile() as source, tempfile.TemporaryFile() as err, \
             (open(out_name, 'wb') if out_name else tempfile.TemporaryFile()) as out:
         if isinstance(given, bytes):
@@ -67,7 +67,7 @@ def run(words, folder, limits, given, out_name=None):
             source.seek(0)
         began = time.monotonic()
         child = subprocess.Popen(words, cwd=folder, stdin=source if isinstance(given, bytes) else given, stdout=out, stderr=err,
-                                 preexec_fn=limit_to(limits.address_space))
+                                 env=environment, preexec_fn=limit_to(limits.address_space))
         status, used = await_end(child, limits.seconds)
         took = time.monotonic() - began
         err.seek(0)
@@ -110,6 +110,13 @@ def wrong_slices(done, steps):
     if steps is not None and sum(line[1] for line in lines) != steps:
         return f'the slices have {sum(line[1] for line in lines)} instructions, and the run {steps}'
     return None
+
+
+def is_without_memory(whole, done):
+    """Whether a run was refused for want of memory, and wrote a beginning of what the whole run writes."""
+    line = b'superpin: 11 no memory\n'
+    return (done.status == 125 and done.err.endswith(line) and whole.out.startswith(done.out)
+            and whole.err.startswith(done.err[:-len(line)]))
 
 
 def differs(serial, other):
