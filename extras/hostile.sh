@@ -2,15 +2,20 @@
 # Tries random damaged files, command words, programs, schedules and faults of the outside, and compares the ways of running:
 #
 #     extras/hostile.sh [SEED [COUNT [FIRST]]]
+#     extras/hostile.sh memory
 #
-# tries the cases FIRST to FIRST + COUNT - 1 of the seed, by default 10,000 cases from 0 on of the seed 1. A case is the same each time,
-# as long as the examples are: those of the repository, and those that guest/check.sh compiled to guest/out, where they are there. Each
-# is run serially and by windows, and where SUPERPIN_LIVE names that program, live with some workers too. The exit status, the standard
-# output and the standard error must be the same byte for byte, but for lines of slices, which must have as many instructions together
-# as the serial run. Some are run once more with memory refused, where there is a C compiler; each of these must do the same or answer that
-# there is no memory, with a beginning of the same outputs. A signal, a run of more than a minute, or of more than 8 GiB of addresses, memory out of proportion, an answer
-# without an end line or the line of a refusal, and whatever differs, is a failure: it is printed with its seed and number, and its
-# files, words and outputs are kept in KEEP, by default a folder hostile-kept in the folder for temporary files.
+# The first tries the cases FIRST to FIRST + COUNT - 1 of the seed, by default 10,000 cases from 0 on of the seed 1. A case is the same
+# each time, as long as the examples are: those of the repository, and those that guest/check.sh compiled to guest/out, where they are
+# there. Each is run serially and by windows, and where SUPERPIN_LIVE names that program, live with some workers too. The exit status,
+# the standard output and the standard error must be the same byte for byte, but for lines of slices, which must have as many
+# instructions together as the serial run. Some are run once more with memory refused, where there is a C compiler; each of these must
+# do the same, or answer that there is no memory with a beginning of the same outputs. A signal, a run of more than a minute or of more
+# than 8 GiB of addresses, memory out of proportion, an answer without an end line or the line of a refusal, and whatever differs, is a
+# failure: it is printed with its seed and number, and its files, words and outputs are kept in KEEP, by default a folder hostile-kept
+# in the folder for temporary files.
+#
+# With the word memory, some examples are run as often as they ask for memory, and each request is refused in turn: first by itself,
+# then with all later ones.
 #
 # The last line has the numbers of the cases. SUPERPIN is the program that is run, by default that of the repository, which the launcher
 # at the top proves and builds first. hostile/ beside this script has the cases. No network is used.

@@ -9,6 +9,7 @@ import sys
 import tempfile
 
 import cases
+import memory
 import running
 
 REFUSED = ' with memory refused'
@@ -139,6 +140,8 @@ def begin(asked, folders):
 
 def main():
     asked = arguments()
+    if asked.seed == 'memory':
+        return memory.main(asked)
     passed = failed = sliced = 0
     seen = collections.Counter()
     numbers = range(asked.first, asked.first + asked.count)
