@@ -3,5 +3,9 @@
 
 mod jobs;
 pub mod laws;
+mod lead;
+mod run;
+mod work;
 
-pub use jobs::{LiveJob, LiveRun};
+pub use jobs::{LiveJob, LiveLead, LivePiece, LiveRing, LiveRun, LiveSeat};
+pub use run::run_live;
