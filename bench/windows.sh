@@ -4,6 +4,7 @@
 #     bench/windows.sh [ratios] [TURNS]
 #     bench/windows.sh options [TURNS]
 #     bench/windows.sh memory [TURNS]
+#     bench/windows.sh live [TURNS]
 #
 # Each figure is of the best of TURNS runs (1 where none is said) by the time that passed. Prints a line for each tool of cache, blocks,
 # mix and calls and each guest:
@@ -20,10 +21,11 @@
 #     MB         the most memory of the run by windows, in 1,000,000 bytes
 #
 # With `options` one guest under one tool is run with --limit 1 to 32 and with --msec 5 to 500, all else by default, and with `memory` a
-# guest that writes 16,000 pages over and over, serially and with --limit 8 and 32. Of these the line has the number of slices, too. The
-# reports are compared with that of the serial run.
+# guest that writes 16,000 pages over and over, serially and with --limit 8 and 32. Of these the line has the number of slices, too. With
+# `live` each guest is run under cache and under blocks serially, by windows, and live with 1 to 4 workers. The reports are compared
+# with that of the serial run.
 #
-# The programs in out/ are run as they stand: `rt ci guest_bench superpin` makes them; SUPERPIN and GUEST_BENCH may name others. With
+# The programs in out/ are run as they stand: `rt ci guest_bench superpin` makes them; SUPERPIN, SUPERPIN_LIVE and GUEST_BENCH may name others. With
 # LENGTH=short the guests are some twenty times shorter, to try the script. Needs guest/superpin-cc, GNU time (/usr/bin/time), awk and bash.
 set -eu
 export LC_ALL=C
@@ -31,6 +33,7 @@ export LC_ALL=C
 bench=$(cd "$(dirname "$0")" && pwd)
 top=$(dirname "$bench")
 superpin=${SUPERPIN:-$top/crates/superpin/out/superpin}
+superpin_live=${SUPERPIN_LIVE:-$top/crates/superpin_live/out/superpin_live}
 guest_bench=${GUEST_BENCH:-$top/crates/guest_bench/out/guest_bench}
 
 # Ends: says why.
@@ -41,12 +44,14 @@ fail() {
 
 mode=ratios
 case ${1:-} in
-    ratios | options | memory) mode=$1; shift ;;
+    ratios | options | memory | live) mode=$1; shift ;;
 esac
 turns=${1:-1}
-[[ $# -le 1 && $turns =~ ^[1-9][0-9]*$ ]] || fail 'call it as bench/windows.sh [ratios | options | memory] [TURNS]'
-for program in "$superpin" "$guest_bench"; do
-    [ -x "$program" ] || fail "there is no $program; make it by: rt ci superpin guest_bench"
+[[ $# -le 1 && $turns =~ ^[1-9][0-9]*$ ]] || fail 'call it as bench/windows.sh [ratios | options | memory | live] [TURNS]'
+programs=("$superpin" "$guest_bench")
+[ "$mode" != live ] || programs=("$superpin" "$superpin_live")
+for program in "${programs[@]}"; do
+    [ -x "$program" ] || fail "there is no $program; make it by: rt ci superpin superpin_live guest_bench"
 done
 [ -x /usr/bin/time ] || fail 'there is no /usr/bin/time; install it by: apt-get install time'
 
@@ -151,6 +156,28 @@ show_options() {
     done
 }
 
+# Each guest serially, by windows, and live with 1 to 4 workers, under two tools.
+show_live() {
+    local guest tool workers serial times
+    echo "$(nproc) processors; seconds"
+    printf '%-8s %-8s %8s %8s %8s %8s %8s %8s\n' tool guest serial windows live-1 live-2 live-3 live-4
+    for tool in cache blocks; do
+        for guest in matrix sieves digest; do
+            run_tool serial "$tool" "$guest" --by serial
+            serial=$wall
+            run_tool windows "$tool" "$guest"
+            compare "$guest" "$tool"
+            times=($wall)
+            for workers in 1 2 3 4; do
+                superpin=$superpin_live run_tool windows "$tool" "$guest" --workers "$workers"
+                compare "$guest" "$tool"
+                times+=("$wall")
+            done
+            printf '%-8s %-8s %8s %8s %8s %8s %8s %8s\n' "$tool" "$guest" "$serial" "${times[@]}"
+        done
+    done
+}
+
 case ${LENGTH:-long} in
     long) size=660 rounds=20 blocks=140000 page_rounds=200 ;;
     short) size=240 rounds=1 blocks=7000 page_rounds=10 ;;
@@ -162,6 +189,12 @@ case $mode in
         compile sieves bench/programs/sieves.c "-DROUNDS=$rounds"
         compile digest bench/programs/digest.c "-DBLOCKS=$blocks"
         show_ratios
+        ;;
+    live)
+        compile matrix guest/examples/matrix.c "-DSIZE=$size"
+        compile sieves bench/programs/sieves.c "-DROUNDS=$rounds"
+        compile digest bench/programs/digest.c "-DBLOCKS=$blocks"
+        show_live
         ;;
     options)
         compile sieves bench/programs/sieves.c "-DROUNDS=$rounds"
