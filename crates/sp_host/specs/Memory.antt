@@ -61,3 +61,7 @@ memory_of h = record {
 -- how far its files were asked for
 abbrev pub memory_reach : MemoryHost → ℕ
 memory_reach h = h.reach
+
+-- how much was drawn from its files
+abbrev pub memory_drawn : MemoryHost → ℕ
+memory_drawn h = h.drawn

@@ -1,5 +1,6 @@
 -- What a host tells of the outside, each part optionally, and what a call does to it.
-use Rattle.std.specs.Prelude.{◌≡◌, ℕ, ◌<◌, ◌≤◌, List, [], ◌++◌, length, take, drop, Option, Some}
+use Rattle.std.specs.Prelude.{◌≡◌, ℕ, ◌<◌, ◌≤◌, List, [], ◌++◌, length, take, drop, max, Option, Some}
+use Rattle.std.specs.Prelude.{Result, Ok, Err}
 use Rattle.std.specs.Option.{option_map, unwrap_or}
 use Rattle.std.specs.Ordering.{nat_cmp}
 use Rattle.std.specs.Cmp.Lexicographic.{slice_cmp}
@@ -63,6 +64,11 @@ pub record Gives (bytes : List ℕ) (n : ℕ) (buffer : List ℕ) : Type 0 where
   pub first : take n buffer ≡ take n bytes
   pub within : n ≤ length bytes
   pub end : n ≡ 0 → bytes ≡ []
+
+-- what a read of a file draws: its bytes, or one where it gave none; nothing where it failed
+abbrev pub drawn_by : {E : Type 0} → Result ℕ E → ℕ
+drawn_by (Ok n) = max n 1
+drawn_by (Err _) = 0
 
 -- A beginning of these bytes was written to a port, and not all of them.
 pub record PartSent (port : Port) (bytes : List ℕ) (old new : Told) : Type 0 where

@@ -1,5 +1,7 @@
 -- What reading a whole file answers.
-use Rattle.std.specs.Prelude.{◌≡◌, ℕ, ◌<◌, ◌≤◌, List, length, take, Option, None, Some, ⊤}
+use Rattle.std.specs.Prelude.{◌≡◌, ℕ, ◌<◌, ◌≤◌, List, length, take, ◌+◌, Option, None, Some, ⊤}
+use Rattle.std.specs.Prelude.{Result, Ok, Err, Vec, vec_len}
+use Rattle.std.specs.declared.alloc.Global.{Global}
 use Rattle.sp_host.specs.Faults.{Source}
 use Rattle.sp_host.specs.Faults.Source.{File}
 use Rattle.sp_host.specs.declared.whole.ReadFault.{ReadFault}
@@ -25,3 +27,9 @@ FaultFits NoMemory most size = 0 < size
 pub record IsFront (bytes file : List ℕ) : Type 0 where
   pub within : length bytes ≤ length file
   pub same : bytes ≡ take (length bytes) file
+
+-- How much may be drawn from a file: each of its bytes once, and once that there are no more; and where it was not read,
+-- at most so many bytes and one.
+abbrev pub drawn_whole : ℕ → Result (Vec ℕ Global) ReadFault → ℕ
+drawn_whole most (Ok bytes) = vec_len bytes + 1
+drawn_whole most (Err _) = most + 1

@@ -2,7 +2,7 @@
 ghost use Rattle.std.specs.Prelude.{◌≡◌, ℕ, ◌<◌, ◌≤◌, ◌+◌, max, length, take, drop, slice_index};
 ghost use Rattle.std.specs.Prelude.{IfOk, MatchResult};
 ghost use Rattle.sp_host.specs.Told.{Told, WhereTold, file_of, Gives};
-ghost use Rattle.sp_host.specs.Told.{sent, input_taken, moment_taken};
+ghost use Rattle.sp_host.specs.Told.{sent, input_taken, moment_taken, drawn_by};
 ghost use Rattle.sp_host.specs.Faults.{Faults, Counts};
 ghost use Rattle.sp_host.specs.Faults.Source.{File, Input, To};
 ghost use Rattle.sp_host.specs.Count.{one_more};
@@ -48,6 +48,10 @@ pub trait Host {
     /// is a bound from above, so a host that keeps no such number shows 0.
     ghost reach: { Self → ℕ };
 
+    /// How much was drawn from files: one for each byte that a read gave, and one for each read that
+    /// gave none. It is a bound from above, as the reach is.
+    ghost drawn: { Self → ℕ };
+
     /// Reads the bytes of a file from byte `at` on into the front of `buf`, and answers how many.
     /// 0 is the end of the file.
     fn read_file(&mut self, name: &str, at: u64, buf: &mut [u8]) -> Result<usize, Failed>
@@ -57,7 +61,8 @@ pub trait Host {
             Gives (drop at (file_of files name.now)) n buf.new)) }
         ensures told { told self.new ≡ told self.old }
         ensures faults { Counts File (faults self.old) (faults self.new) result }
-        ensures reach { reach self.new ≤ max (reach self.old) (at + length buf.old) };
+        ensures reach { reach self.new ≤ max (reach self.old) (at + length buf.old) }
+        ensures drawn { drawn self.new ≤ drawn self.old + drawn_by result };
 
     /// Takes bytes from the front of the input into the front of `buf`, and answers how many.
     /// 0 is the end of the input.
@@ -69,7 +74,8 @@ pub trait Host {
         ensures told { MatchResult result (λ n. told self.new ≡ input_taken n (told self.old))
             (λ _. told self.new ≡ told self.old) }
         ensures faults { Counts Input (faults self.old) (faults self.new) result }
-        ensures reach { reach self.new ≤ reach self.old };
+        ensures reach { reach self.new ≤ reach self.old }
+        ensures drawn { drawn self.new ≤ drawn self.old };
 
     /// Writes the first bytes of a piece, at least one, and answers how many.
     fn write(&mut self, port: Port, bytes: &[u8]) -> Result<usize, Failed>
@@ -80,7 +86,8 @@ pub trait Host {
             (λ n. told self.new ≡ sent port (take n bytes.now) (told self.old))
             (λ _. told self.new ≡ told self.old) }
         ensures faults { Counts (To port) (faults self.old) (faults self.new) result }
-        ensures reach { reach self.new ≤ reach self.old };
+        ensures reach { reach self.new ≤ reach self.old }
+        ensures drawn { drawn self.new ≤ drawn self.old };
 
     /// Takes the first moment that is left, in nanoseconds since 1970, or answers 0 where none is
     /// left.
@@ -88,5 +95,6 @@ pub trait Host {
         ensures value { WhereTold (told self.old).moments (λ left. result ≡ slice_index left 0) }
         ensures told { told self.new ≡ moment_taken (told self.old) }
         ensures faults { faults self.new ≡ faults self.old }
-        ensures reach { reach self.new ≤ reach self.old };
+        ensures reach { reach self.new ≤ reach self.old }
+        ensures drawn { drawn self.new ≤ drawn self.old };
 }

@@ -219,6 +219,7 @@ pub struct MemoryHost {
     most: usize,
     room: usize,
     reach: u64,
+    drawn: u64,
     ghost some: { 0 < most },
     ghost moments_within: { moments_at ≤ vec_len moments },
     ghost out_room: { room ≤ vec_capacity out.bytes },
@@ -229,7 +230,7 @@ pub struct MemoryHost {
 impl MemoryHost {
     ghost use Rattle.std.specs.Prelude.{Some};
     ghost use Rattle.sp_host.specs.Memory.{files_of, file_named};
-    ghost use Rattle.sp_host.specs.Memory.{memory_told, memory_faults, memory_reach, memory_of};
+    ghost use Rattle.sp_host.specs.Memory.{memory_told, memory_faults, memory_reach, memory_drawn, memory_of};
     ghost use Rattle.sp_host.specs.Told.{file_of, written_to};
     ghost use Rattle.sp_host.specs.Faults.{no_faults};
 
@@ -253,6 +254,7 @@ impl MemoryHost {
         }) }
         ensures faults { IfOk result (λ h. memory_faults h ≡ no_faults) }
         ensures reach { IfOk result (λ h. memory_reach h ≡ 0) }
+        ensures drawn { IfOk result (λ h. memory_drawn h ≡ 0) }
         ensures plan { IfOk result (λ h. memory_of h ≡ record {
           file = record { planned = faults.file.items; made = 0 };
           input = record { planned = faults.input.items; made = 0 };
@@ -286,6 +288,7 @@ impl MemoryHost {
             most,
             room,
             reach: 0,
+            drawn: 0,
         })
     }
 
@@ -322,17 +325,19 @@ impl MemoryHost {
 
 impl Host for MemoryHost {
     ghost use Rattle.sp_host.specs.Told.{WhereTold, file_of, written_to};
-    ghost use Rattle.sp_host.specs.Told.{sent, input_taken, moment_taken};
+    ghost use Rattle.sp_host.specs.Told.{sent, input_taken, moment_taken, drawn_by};
     ghost use Rattle.sp_host.specs.Faults.{Counts};
     ghost use Rattle.sp_host.specs.Faults.Source.{File, Input, To};
     ghost use Rattle.sp_host.specs.Plan.{IsPlanned, IsFull, call_made};
-    ghost use Rattle.sp_host.specs.Memory.{memory_told, memory_faults, memory_reach, memory_of};
+    ghost use Rattle.sp_host.specs.Memory.{memory_told, memory_faults, memory_reach, memory_drawn, memory_of};
 
     ghost told = { memory_told };
 
     ghost faults = { memory_faults };
 
     ghost reach = { memory_reach };
+
+    ghost drawn = { memory_drawn };
 
     fn read_file(&mut self, name: &str, at: u64, buf: &mut [u8]) -> Result<usize, Failed>
         requires { 0 < length buf.old }
@@ -342,6 +347,7 @@ impl Host for MemoryHost {
         ensures told { memory_told self.new ≡ memory_told self.old }
         ensures faults { Counts File (memory_faults self.old) (memory_faults self.new) result }
         ensures reach { memory_reach self.new ≤ max (memory_reach self.old) (at + length buf.old) }
+        ensures drawn { memory_drawn self.new ≤ memory_drawn self.old + drawn_by result }
 
         // which calls fail, and how many bytes they move, as the plan says
         ensures failed { IsErr result ↔ IsPlanned File (memory_of self.old) }
@@ -350,14 +356,18 @@ impl Host for MemoryHost {
             (length (drop at (file_of files name.now))))) }
         ensures calls { memory_of self.new ≡ call_made File (memory_of self.old) }
 
-        // it keeps how far it was asked, up to 2^64 - 1
+        // it keeps how far it was asked and how much was drawn, up to 2^64 - 1
         ensures reached { memory_reach self.new
             ≡ max (memory_reach self.old) (min (at + length buf.old) (2 ^ 64 - 1)) }
+        ensures counted { memory_drawn self.new
+            ≡ max (memory_drawn self.old) (min (memory_drawn self.old + drawn_by result) (2 ^ 64 - 1)) }
     {
         self.reach = self.reach.max(at.saturating_add(buf.len() as u64));
         self.file_meter.call()?;
         let most = self.most;
-        Ok(copy_front(self.file_from(name, at), most, buf))
+        let count = copy_front(self.file_from(name, at), most, buf);
+        self.drawn = self.drawn.saturating_add(count.max(1) as u64);
+        Ok(count)
     }
 
     fn read_input(&mut self, buf: &mut [u8]) -> Result<usize, Failed>
@@ -370,6 +380,7 @@ impl Host for MemoryHost {
             (λ _. memory_told self.new ≡ memory_told self.old) }
         ensures faults { Counts Input (memory_faults self.old) (memory_faults self.new) result }
         ensures reach { memory_reach self.new ≤ memory_reach self.old }
+        ensures drawn { memory_drawn self.new ≤ memory_drawn self.old }
 
         // as the plan says
         ensures failed { IsErr result ↔ IsPlanned Input (memory_of self.old) }
@@ -390,6 +401,7 @@ impl Host for MemoryHost {
             (λ _. memory_told self.new ≡ memory_told self.old) }
         ensures faults { Counts (To port) (memory_faults self.old) (memory_faults self.new) result }
         ensures reach { memory_reach self.new ≤ memory_reach self.old }
+        ensures drawn { memory_drawn self.new ≤ memory_drawn self.old }
 
         // as the plan says
         ensures failed { IsErr result ↔ (IsPlanned (To port) (memory_of self.old)
@@ -413,6 +425,7 @@ impl Host for MemoryHost {
         ensures told { memory_told self.new ≡ moment_taken (memory_told self.old) }
         ensures faults { memory_faults self.new ≡ memory_faults self.old }
         ensures reach { memory_reach self.new ≤ memory_reach self.old }
+        ensures drawn { memory_drawn self.new ≤ memory_drawn self.old }
         ensures calls { memory_of self.new ≡ memory_of self.old }
     {
         if self.moments_at < self.moments.len() {

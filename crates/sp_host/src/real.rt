@@ -181,6 +181,8 @@ impl Host for StdHost {
 
     ghost reach = { λ _. 0 };
 
+    ghost drawn = { λ _. 0 };
+
     fn read_file(&mut self, name: &str, at: u64, buf: &mut [u8]) -> Result<usize, Failed> {
         match self.read_open(name, at, buf) {
             Ok(n) => Ok(n),

@@ -47,6 +47,8 @@ impl Host for SteadyHost {
 
     ghost reach = { λ _. 0 };
 
+    ghost drawn = { λ _. 0 };
+
     fn read_file(&mut self, _name: &str, _at: u64, _buf: &mut [u8]) -> Result<usize, Failed> {
         Ok(0)
     }

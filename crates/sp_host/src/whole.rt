@@ -4,7 +4,7 @@ ghost use Rattle.std.specs.Prelude.{MatchResult, IfOk, IfErr, IsTrue};
 ghost use Rattle.sp_host.specs.Told.{sent, PartSent, WhereTold, file_of};
 ghost use Rattle.sp_host.specs.Faults.{Counts, CausedIn};
 ghost use Rattle.sp_host.specs.Faults.Source.{To};
-ghost use Rattle.sp_host.specs.Whole.{most_file, fault_source, FaultFits, IsFront};
+ghost use Rattle.sp_host.specs.Whole.{most_file, fault_source, FaultFits, IsFront, drawn_whole};
 ghost use Rattle.sp_host.specs.declared.whole.ReadFault.TheVariants.{FileFault, NoMemory};
 
 use crate::{Failed, Host, Port};
@@ -58,7 +58,7 @@ pub fn write_whole<H: Host>(host: &mut H, port: Port, bytes: &[u8]) -> Result<()
 }
 
 /// All the bytes of a file that has at most [`MAX_FILE`] of them. It asks for one byte more at
-/// most.
+/// most, for no byte again that a read gave, and not again once a read gave none.
 pub fn read_whole<H: Host>(alloc: Global, host: &mut H, name: &str) -> Result<Vec<u8>, ReadFault>
     ensures size { IfOk result (λ v. vec_len v ≤ most_file) }
     ensures bytes { WhereTold (H.told host.old).files (λ files.
@@ -67,6 +67,7 @@ pub fn read_whole<H: Host>(alloc: Global, host: &mut H, name: &str) -> Result<Ve
     ensures told { H.told host.new ≡ H.told host.old }
     ensures faults { CausedIn fault_source (H.faults host.old) (H.faults host.new) result }
     ensures reach { H.reach host.new ≤ max (H.reach host.old) (most_file + 1) }
+    ensures drawn { H.drawn host.new ≤ H.drawn host.old + drawn_whole most_file result }
 {
     read_within(alloc, host, name, MAX_FILE)
 }
@@ -89,6 +90,7 @@ pub fn read_within<H: Host>(
     ensures told { H.told host.new ≡ H.told host.old }
     ensures faults { CausedIn fault_source (H.faults host.old) (H.faults host.new) result }
     ensures reach { H.reach host.new ≤ max (H.reach host.old) (most + 1) }
+    ensures drawn { H.drawn host.new ≤ H.drawn host.old + drawn_whole most result }
 {
     let mut bytes = Vec::new(alloc);
     let mut buf = [0u8; PIECE];
@@ -124,6 +126,10 @@ fn read_piece<H: Host>(
     ensures told { H.told host.new ≡ H.told host.old }
     ensures faults { CausedIn fault_source (H.faults host.old) (H.faults host.new) result }
     ensures reach { H.reach host.new ≤ max (H.reach host.old) (vec_len bytes.old + length buf.old) }
+    ensures drawn { MatchResult result
+        (λ more. (IsTrue more → H.drawn host.new + vec_len bytes.old ≤ H.drawn host.old + vec_len bytes.new)
+        × (more ≡ false → H.drawn host.new ≤ H.drawn host.old + 1))
+        (λ _. H.drawn host.new ≤ H.drawn host.old + length buf.old) }
 {
     let count = host.read_file(name, bytes.len() as u64, buf)?;
     bytes.extend_from_slice(&buf[..count])?;
