@@ -5,12 +5,26 @@ ghost use Rattle.std.specs.Prelude.{◌≡◌, ◌+◌, ◌<◌, All, length};
 ghost use Rattle.slice_ring.specs.Seats.{with_view, IsOf, IsIdle};
 ghost use Rattle.ring_workers.specs.Answers.{Answers, IsSameBut};
 
+use crossbeam_utils::Backoff;
 use slice_ring::{LeadSeat, Numbered, Ring, WorkSeat};
 use std::sync::Wait;
-use std::thread;
-use std::thread::{Threads, for_each_mut, join_mut};
+use std::thread::{Parker, Threads, for_each_mut, join_mut};
+use std::time::Duration;
 
-/// Answers jobs until the ring is closed. It returns if it is closed.
+/// How long a worker sleeps that has found nothing for some turns, in microseconds.
+const NAP: u64 = 200;
+
+// Lets other threads run: it spins and yields at first, and sleeps where that went on for some turns.
+fn back_off<R: Wait>(rt: &R, backoff: &Backoff, parker: &Parker) {
+    if backoff.is_completed() {
+        parker.park_timeout(rt, Duration::from_micros(NAP));
+    } else {
+        backoff.snooze();
+    }
+}
+
+/// Answers jobs until the ring is closed. It returns if it is closed. While it finds none it backs off, so that it takes
+/// little of the processors' time.
 pub fn work<
     J: Numbered + Send + Drop,
     P: Numbered<Topic = J::Topic> + Send + Drop,
@@ -21,14 +35,19 @@ pub fn work<
     requires answers { Answers J.ticket P.ticket ring.now (W.pre answer.now) (W.post answer.now) }
     ensures { IsIdle ring.now seat.new }
 {
+    let backoff = Backoff::new();
+    let parker = Parker::new();
     for _turn in rt.forever() {
         match ring.claim(seat) {
-            Some(job) => ring.deposit(seat, answer(job)),
+            Some(job) => {
+                ring.deposit(seat, answer(job));
+                backoff.reset();
+            }
             None => {
                 if ring.is_closed(seat) {
                     break;
                 }
-                thread::yield_now();
+                back_off(rt, &backoff, &parker);
             }
         }
     }
