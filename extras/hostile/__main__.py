@@ -19,7 +19,7 @@ def arguments():
     """What the command asks for."""
     parser = argparse.ArgumentParser(prog='hostile.sh')
     parser.add_argument('--superpin', required=True)
-    parser.add_argument('--live', default='')
+    parser.add_argument('--live', required=True)
     parser.add_argument('--refuse', default='')
     parser.add_argument('--keep', required=True)
     parser.add_argument('--seconds', type=float, default=60)
@@ -45,8 +45,7 @@ def ways_of(asked, case):
     if not case.ways:
         return {'first': [asked.superpin, *case.words], 'second': [asked.superpin, *case.words]}
     ways = {way: [asked.superpin, 'run', '--by', way, *case.words] for way in ('serial', 'windows')}
-    if asked.live:
-        ways['live'] = [asked.live, 'run', '--workers', str(case.workers), *case.words]
+    ways['live'] = [asked.live, 'run', '--workers', str(case.workers), *case.words]
     if asked.refuse and case.refused:
         ways.update({way + REFUSED: words for way, words in ways.items()})
     return ways

@@ -15,8 +15,7 @@ QUIET = 100
 def ways_of(asked):
     """The words of each way, by name."""
     ways = {way: [asked.superpin, 'run', '--by', way, *OPTIONS, 'f'] for way in ('serial', 'windows')}
-    if asked.live:
-        ways['live'] = [asked.live, 'run', '--workers', '2', *OPTIONS, 'f']
+    ways['live'] = [asked.live, 'run', '--workers', '2', *OPTIONS, 'f']
     return ways
 
 
