@@ -5,10 +5,10 @@
 #
 # Compares the standard output, the status and, under superpin, the last line of the report with the table of rows.sh, and the
 # `icount` of superpin with the number that qemu counts, where its plugin count.c can be built. Prints a line for each run
-# that differs and a last line with the numbers of both. SUPERPIN is the program that is run, by default the launcher at the
-# top of the repository. Where something is missing it says so, and what it runs without.
+# that differs and a last line with the numbers of both. SUPERPIN and SUPERPIN_LIVE are the programs that are run, by default the
+# launchers at the top of the repository. Where something is missing it says so, and what it runs without.
 . "$(dirname "$0")/rows.sh"
-ways=('--by serial' '--by windows')
+ways=(serial windows live)
 
 # Sets `qemu` to qemu and `plugin` to its counting plugin; each stays empty where it cannot be had.
 find_qemu() {
@@ -61,8 +61,7 @@ check() {
     fi
     for way in "${ways[@]}"; do
         answer=0
-        # shellcheck disable=SC2086 # the words of a way
-        "$superpin" run $way "$guest/out/$name" "$@" <"$folder/input" >"$folder/output" 2>"$folder/report" || answer=$?
+        run_way "$way" "$guest/out/$name" "$@" <"$folder/input" >"$folder/output" 2>"$folder/report" || answer=$?
         last=$(tail -n 1 "$folder/report")
         # shellcheck disable=SC2254 # a pattern
         case $last in
@@ -75,7 +74,7 @@ check() {
             due="$due, icount $(cat "$folder/count")"
             counted=", icount $(awk '$1 == "icount" { count = $2 } END { print count }' "$folder/report")"
         fi
-        count_run "$name under superpin $way" "$due" "status $answer$counted$last"
+        count_run "$name under superpin, $way" "$due" "status $answer$counted$last"
     done
 }
 

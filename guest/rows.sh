@@ -1,4 +1,4 @@
-# What check.sh and windows.sh share; each begins by reading this file. It sets `guest`, `top` and `folder`, a temporary one,
+# What check.sh and compare.sh share; each begins by reading this file. It sets `guest`, `top` and `folder`, a temporary one,
 # and has the table of the runs of the examples: `run_rows` calls `check`, which each of the two makes for itself, for each row.
 set -eu
 export LC_ALL=C
@@ -24,14 +24,29 @@ skip() {
     exit 0
 }
 
-# Sets `superpin` to the program that is run.
-find_superpin() {
-    superpin=$top/superpin
-    if [ -n "${SUPERPIN:-}" ]; then
-        superpin=$(command -v "$SUPERPIN") || { note "SUPERPIN is no program: $SUPERPIN"; exit 1; }
-    elif [ ! -x "$top/crates/superpin/out/superpin" ] && ! command -v rt >/dev/null; then
-        skip "there is no rt to build superpin"
+# Prints the program that is run: the one that is given, or that of the repository.
+find_program() {
+    local name=$1 given=$2
+    if [ -n "$given" ]; then
+        command -v "$given" || { note "there is no program $given"; exit 1; }
+    elif [ -x "$top/crates/$name/out/$name" ] || command -v rt >/dev/null; then
+        echo "$top/$name"
     fi
+}
+
+# Sets `superpin` and `superpin_live` to the programs that are run.
+find_superpin() {
+    superpin=$(find_program superpin "${SUPERPIN:-}")
+    superpin_live=$(find_program superpin_live "${SUPERPIN_LIVE:-}")
+    [ -n "$superpin" ] && [ -n "$superpin_live" ] || skip "there is no rt to build superpin and superpin_live"
+}
+
+# Runs a way, which is serial, windows or live, with these words.
+run_way() {
+    case $1 in
+        live) shift; "$superpin_live" run "$@" ;;
+        *) "$superpin" run --by "$@" ;;
+    esac
 }
 
 # Compiles the examples, as a user would.

@@ -1,37 +1,40 @@
 #!/usr/bin/env bash
-# Runs the examples serially and by windows, and compares the two:
+# Runs the examples serially, by windows and live, and compares them:
 #
-#     guest/windows.sh [--slices]
+#     guest/compare.sh [--slices]
 #
-# Each run of check.sh is made under each of the six tools, serially and then by windows in the ways below, in which the clock cuts the run
-# each millisecond; in the second way each call that goes on cuts it, too. The standard output, the exit status and the standard error,
-# with the report on it, must be the same byte for byte. Where an example reads the clock its steps may differ from run to run, so its
-# report is compared without the lines of the tool.
+# Each run of check.sh is made under each of the six tools, serially and then in the ways below, in which the clock cuts the run each
+# millisecond; in the second of windows and of live each call that goes on cuts it, too. The standard output, the exit status and the
+# standard error, with the report on it, must be the same byte for byte. Where an example reads the clock its steps may differ from run to
+# run, so its report is compared without the lines of the tool.
 #
-# With --slices the runs by windows under icount are made once more, with that option: the lines of slices must stand behind the same
+# With --slices the runs under icount that are cut are made once more, with that option: the lines of slices must stand behind the same
 # report and be numbered from 0; each but the last has one whole match, the last none, and none more matches of a later test than of an
 # earlier one; and together they have as many steps as icount says of the serial run or, where an example reads the clock, of this run.
 #
-# Prints what differs, and a last line with the numbers of the comparisons. SUPERPIN is the program that is run, by default the
-# launcher at the top of the repository. Where something is missing it says so, and runs nothing.
+# Prints what differs, and a last line with the numbers of the comparisons. SUPERPIN and SUPERPIN_LIVE are the programs that are run, by
+# default the launchers at the top of the repository. Where something is missing it says so, and runs nothing.
 . "$(dirname "$0")/rows.sh"
 tools=(icount bcount mix blocks calls cache)
-ways=('--msec 1 --poll 16' '--msec 1 --poll 1 --records 1 --frames 64 --limit 3')
+often='--msec 1 --poll 16'
+calls='--msec 1 --poll 1 --records 1 --frames 64 --limit 3'
+ways=("windows $often" "windows $calls" "live $often" "live $calls --workers 2")
 clocked=' library '
 slice_count=0
 sliced_runs=0
 
 if [ $# -gt 1 ] || [ "${1:---slices}" != --slices ]; then
-    echo 'windows.sh: call it as guest/windows.sh [--slices]' >&2
+    echo 'compare.sh: call it as guest/compare.sh [--slices]' >&2
     exit 1
 fi
 slices=${1:-no}
 
-# Runs an example of a kind, serial or windows, by these words; leaves KIND.out, KIND.err and KIND.status in the folder.
+# Runs an example by these words, the first of which is the way; leaves KIND.out, KIND.err and KIND.status in the folder, of the kind
+# serial or cut.
 run_so() {
     local kind=$1 status=0
     shift
-    "$superpin" run "$@" <"$folder/input" >"$folder/$kind.out" 2>"$folder/$kind.err" || status=$?
+    run_way "$@" <"$folder/input" >"$folder/$kind.out" 2>"$folder/$kind.err" || status=$?
     echo "$status" >"$folder/$kind.status"
 }
 
@@ -44,10 +47,10 @@ without_tool() {
 compare() {
     local what=$1 part is_same=yes
     for part in out err status; do
-        cmp -s "$folder/serial.$part" "$folder/windows.$part" && continue
+        cmp -s "$folder/serial.$part" "$folder/cut.$part" && continue
         is_same=no
         echo "$what: its $part differs so from the serial run's:"
-        diff "$folder/serial.$part" "$folder/windows.$part" | head -n 6 || true
+        diff "$folder/serial.$part" "$folder/cut.$part" | head -n 6 || true
     done
     count "$is_same"
 }
@@ -57,7 +60,7 @@ count() {
     if [ "$1" = yes ]; then passed=$((passed + 1)); else failed=$((failed + 1)); fi
 }
 
-# Tells what is wrong with the lines of slices at the end of windows.err, whose steps together are the number given; takes them away.
+# Tells what is wrong with the lines of slices at the end of cut.err, whose steps together are the number given; takes them away.
 take_slices() {
     awk -v steps="$1" '
         /^slice / {
@@ -83,7 +86,7 @@ take_slices() {
             if (is_ended && sum != steps) wrong = "the slices have " sum " steps, and the run " steps
             print lines + 0, wrong
         }
-    ' other="$folder/rest.err" "$folder/windows.err"
+    ' other="$folder/rest.err" "$folder/cut.err"
 }
 
 # Compares a run with the option --slices with the serial run under icount, and looks at its lines.
@@ -92,24 +95,24 @@ compare_slices() {
     shift 2
     : >"$folder/rest.err"
     # shellcheck disable=SC2086 # the words of a way
-    run_so windows --by windows $way --slices "$@"
+    run_so cut $way --slices "$@"
     case $clocked in
         *" $name "*) steps=own ;;
         *) steps=$(awk '$1 == "icount" { print $2 }' "$folder/serial.err") ;;
     esac
     read -r lines wrong <<<"$(take_slices "$steps")"
-    mv "$folder/rest.err" "$folder/windows.err"
+    mv "$folder/rest.err" "$folder/cut.err"
     slice_count=$((slice_count + lines))
     sliced_runs=$((sliced_runs + 1))
-    [ -z "$wrong" ] || { echo "$name by windows $way --slices: $wrong"; count no; return; }
+    [ -z "$wrong" ] || { echo "$name, $way --slices: $wrong"; count no; return; }
     [ "$steps" != own ] || drop_counts
-    compare "$name by windows $way --slices"
+    compare "$name, $way --slices"
 }
 
 # Leaves out the lines of the tool in what both runs wrote.
 drop_counts() {
     local kind
-    for kind in serial windows; do
+    for kind in serial cut; do
         without_tool <"$folder/$kind.err" >"$folder/rest.err"
         mv "$folder/rest.err" "$folder/$kind.err"
     done
@@ -121,14 +124,14 @@ check() {
     shift 6
     printf '%b' "$input" >"$folder/input"
     for tool in "${tools[@]}"; do
-        run_so serial --by serial --tool "$tool" "$guest/out/$name" "$@"
+        run_so serial serial --tool "$tool" "$guest/out/$name" "$@"
         cp "$folder/serial.err" "$folder/whole.err"
         for way in "${ways[@]}"; do
             cp "$folder/whole.err" "$folder/serial.err"
             # shellcheck disable=SC2086 # the words of a way
-            run_so windows --by windows $way --tool "$tool" "$guest/out/$name" "$@"
+            run_so cut $way --tool "$tool" "$guest/out/$name" "$@"
             case $clocked in *" $name "*) drop_counts ;; esac
-            compare "$name by windows $way --tool $tool"
+            compare "$name, $way --tool $tool"
             if [ "$slices" != no ] && [ "$tool" = icount ]; then
                 cp "$folder/whole.err" "$folder/serial.err"
                 compare_slices "$name" "$way" "$guest/out/$name" "$@"
