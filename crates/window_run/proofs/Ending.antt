@@ -1,35 +1,24 @@
 -- A run that came to its end: its value, its cuts and its lines.
-use Rattle.std.proofs.Common.{◌≡◌, ℕ, ◌+◌, ◌-◌, ◌/◌, ◌^◌, ◌<◌, ◌≤◌, Bool, List, ◌++◌, length, map, sym, ap, subst, ◌∙◌, arith}
+use Rattle.std.proofs.Common.{◌≡◌, ℕ, ◌+◌, ◌^◌, ◌<◌, ◌≤◌, List, ◌++◌, length, map, sym, ap, subst, ◌∙◌, arith}
 use Rattle.std.specs.Prelude.{Option, Some}
 use Rattle.sp_host.specs.Told.{Told}
-use Rattle.guest_model.specs.Runs.{Running}
-use Rattle.guest_model.specs.Serial.{Position, TraceItem, item_at, position_at, step_of, trace_of}
-use Rattle.guest_model.specs.Serial as serial
-use Rattle.guest_model.proofs.Runs.{along_stays}
+use Rattle.guest_model.specs.Serial.{Position}
 use Rattle.ins_views.specs.Views.{ViewFields}
 use Rattle.insert_points.specs.Plan.{PlanFields, called_at}
 use Rattle.insert_points.specs.declared.call.Call.{Call}
 use Rattle.insert_points.specs.declared.call.Event.{Event}
 use Rattle.insert_points.specs.declared.call.Thing.{Thing}
-use Rattle.boundary_verify.specs.Cuts.{AreBetween, AreCuts}
 use Rattle.boundary_verify.specs.Job.{JobFields}
-use Rattle.boundary_verify.specs.Lines.{AreLines, IsLineOf}
+use Rattle.boundary_verify.specs.Lines.{IsLineOf}
 use Rattle.boundary_verify.specs.Pieces.{IsPiece}
-use Rattle.boundary_verify.proofs.Cuts.{cuts_rise}
-use Rattle.boundary_verify.proofs.Joins.{joined}
-use Rattle.boundary_verify.proofs.Lines.{lines_are}
-use Rattle.master_run.specs.Answers.{HasAnswered, PacerState}
-use Rattle.master_run.specs.Master.{MasterState, limits_of}
-use Rattle.master_run.specs.Turn.{RunIsOver}
+use Rattle.master_run.specs.Answers.{PacerState}
+use Rattle.master_run.specs.Master.{MasterState}
 use Rattle.master_run.specs.declared.limits.Limits.{Limits}
 use Rattle.ordered_merge.specs.declared.finished.Finished.{Finished}
 use Rattle.ordered_merge.specs.declared.merger.SliceLine.{SliceLine}
 use Rattle.rv_machine.specs.declared.step.End.{End}
-use Rattle.serial_run.proofs.Events.{events_of_tool}
-use Rattle.sp_report.specs.Lines.{end_by}
 use Rattle.tool_law.specs.Events as tools
 use Rattle.tool_law.specs.Planning.{called_of}
-use Rattle.tool_step.specs.Steps.{trace_events}
 use Rattle.sliced_run.specs.Sliced.{SlicedEnd, line_by}
 use Rattle.sliced_run.proofs.Ending.{run_ends}
 use Rattle.window_run.specs.Jobs.{AreJobs, HasMerged, IsRun, MergesJobs, and_one}

@@ -13,14 +13,11 @@ use Rattle.boundary_verify.specs.Pieces.{HoldsForFirst, HoldsForPaths, IsPiece}
 use Rattle.master_run.specs.Answers.{PacerState}
 use Rattle.master_run.specs.Master.{HasRunTo, MasterState, Ready}
 use Rattle.master_run.specs.Turn.{RunIsOver}
-use Rattle.master_run.specs.declared.master.Turn.{Turn}
-use Rattle.master_run.specs.declared.master.Turn.TheVariants as turns
 use Rattle.ordered_merge.specs.declared.merger.SliceLine.{SliceLine}
 use Rattle.rv_machine.specs.declared.step.End.{End}
 use Rattle.slice_runner.specs.Piece.{IsPieceOf}
 use Rattle.sp_report.specs.Lines.{end_by}
 use Rattle.syscall_layer.specs.declared.fault.RunFault.{RunFault}
-use Rattle.syscall_layer.specs.declared.fault.RunFault.TheVariants as faults
 use Rattle.tool_law.specs.declared.piece.Piece.{Piece}
 use Rattle.tool_step.specs.Steps.{trace_events}
 use Rattle.sliced_run.specs.Sliced.{SlicedFail, joined_items, line_by}

@@ -41,6 +41,7 @@ fn fill_beside<T: Tool, H: Host + Send, P: Pacer + Send, R: Threads + Sync>(
     ensures hands { IfOk result.0
         (λ window. HandsJobs master.old window.jobs.items window.end master.new) }
     ensures some { IfOk result.0 (λ window. 1 ≤ length window.jobs.items) }
+    ensures few { IfOk result.0 (λ window. length window.jobs.items ≤ most) }
     ensures faults { CausedIn run_source_of (H.faults host.old) (H.faults host.new) result.0 }
     ensures port { IfErr result.0 IsOfGuest }
     ensures period { P.period_shown pacer.new ≡ P.period_shown pacer.old }
@@ -85,6 +86,7 @@ pub(crate) fn next_window<T: Tool, H: Host + Send, P: Pacer + Send, R: Threads +
     ensures hands { IfOk result
         (λ window. HandsJobs master.old window.jobs.items window.end master.new) }
     ensures some { IfOk result (λ window. 1 ≤ length window.jobs.items) }
+    ensures few { IfOk result (λ window. length window.jobs.items ≤ most) }
     ensures faults { CausedIn run_source_of (H.faults host.old) (H.faults host.new) result }
     ensures port { IfErr result IsOfGuest }
     ensures period { P.period_shown pacer.new ≡ P.period_shown pacer.old }

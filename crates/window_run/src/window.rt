@@ -37,6 +37,7 @@ pub(crate) fn fill<H: Host, P: Pacer>(
     ensures hands { IfOk result
         (λ window. HandsJobs master.old window.jobs.items window.end master.new) }
     ensures some { IfOk result (λ window. 1 ≤ length window.jobs.items) }
+    ensures few { IfOk result (λ window. length window.jobs.items ≤ most) }
     ensures faults { CausedIn run_source_of (H.faults host.old) (H.faults host.new) result }
     ensures port { IfErr result IsOfGuest }
     ensures period { P.period_shown pacer.new ≡ P.period_shown pacer.old }
