@@ -1,5 +1,5 @@
 -- The tags of a run's jobs, one after the other.
-use Rattle.std.proofs.Common.{◌≡◌, ℕ, zero, suc, ◌+◌, ◌-◌, ◌<◌, ◌≤◌, List, [], ◌∷◌, ◌++◌, drop, length, take, refl, sym, ap, subst, ◌∙◌, arith}
+use Rattle.std.proofs.Common.{◌≡◌, ℕ, zero, suc, ◌-◌, ◌<◌, ◌≤◌, List, [], ◌∷◌, ◌++◌, drop, length, take, refl, sym, ap, subst, arith}
 use Rattle.std.specs.Prelude.{Option, None, Some}
 use Rattle.std.specs.List.{All, AllZip}
 use Rattle.std.proofs.lemmas.List.{length-take-le}
@@ -15,7 +15,7 @@ use Rattle.rv_machine.specs.declared.step.End.{End}
 use Rattle.slice_ring.specs.Ticket.{Tag}
 use Rattle.live_run.specs.Live.{IsWithin}
 use Rattle.live_run.specs.Merged.{IsChain, last_cut}
-use Rattle.live_run.specs.Tags.{end_at, path_of_tag, reached_by, tags_from}
+use Rattle.live_run.specs.Tags.{path_of_tag, reached_by, tags_from}
 
 -- one cut more
 pub tags_more : (b c : ℕ) (cuts : List ℕ) → tags_from b (cuts ++ c ∷ []) None ≡ tags_from b cuts None ++ (last_cut b cuts, c) ∷ []

@@ -1,5 +1,5 @@
 -- The lead's part of a live run: what it is given, and what it leaves.
-use Rattle.std.specs.Prelude.{◌≡◌, ℕ, Bool, false, List, [], Option, None, Some, Result, IfErr, IfOk}
+use Rattle.std.specs.Prelude.{◌≡◌, Bool, false, List, [], None, Some, Result, IfErr, IfOk}
 use Rattle.sp_host.specs.Faults.{CausedIn, Faults}
 use Rattle.sp_host.specs.Told.{Told}
 use Rattle.insert_points.specs.Plan.{PlanFields}

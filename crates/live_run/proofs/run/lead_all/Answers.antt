@@ -1,10 +1,9 @@
-use Rattle.std.proofs.Common.{rules, ◌≡◌, ap, length, sym, true, ◌∙◌}
+use Rattle.std.proofs.Common.{rules, ◌≡◌, ap, length, sym, ◌∙◌}
 use denote.Param.Send.{sendable}
 use Rattle.std.proofs.lemmas.Result.{IfOk-weaker}
 use Rattle.master_run.specs.Answers.{PacerState}
 use Rattle.serial_run.specs.Start.{start_of}
 use Rattle.slice_ring.specs.Seats.{IsOf, IsOver, SeatView, merged_by}
-use Rattle.slice_ring.specs.Ticket.{Tag}
 use Rattle.sliced_run.specs.Sliced.{shows}
 use Rattle.live_run.proofs.Driving.{all_merged}
 use Rattle.live_run.proofs.Sent.{job_send}
