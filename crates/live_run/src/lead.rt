@@ -79,6 +79,7 @@ fn publish_next<T: Tool, H: Host + Send, P: Pacer, G: Gate>(
         None master.old (H.told host.old)
         (shows (P.period_shown pacer.old) (P.tally pacer.old) (P.answers pacer.old))) }
     ensures seat { IsOf course.now.ring.now lead.new × IsOpen lead.new × (merged_by lead.new ≡ merged_by lead.old) }
+    ensures retired { lead.new.view.retired ≡ lead.old.view.retired }
     ensures cut { IfOk result (λ ended. IsCutSoFar master.old.limits ended master.new) }
     ensures tags { IfOk result (λ ended. lead.new.view.lead.tags ≡ tags_from 0 master.new.cuts ended) }
     ensures more { IfOk result (λ _. (tag : Tag) × (lead.new.view.lead.tags ≡ lead.old.view.lead.tags ++ tag ∷ [])) }
@@ -147,6 +148,7 @@ fn merge_next<T: Tool, H: Host + Send, P: Pacer, G: Gate>(
     requires count { length merger.old.lines.items ≡ merged_by lead.old }
     requires sound { merger.old.refused ≡ false }
     ensures seat { IsOf course.now.ring.now lead.new × IsOpen lead.new × IsIdle course.now.ring.now mine.new }
+    ensures retired { lead.new.view.retired ≡ lead.old.view.retired }
     ensures tags { lead.new.view.lead.tags ≡ lead.old.view.lead.tags }
     ensures within { merged_by lead.new ≤ published_by lead.new }
     ensures count { OnOk result (length merger.new.lines.items ≡ merged_by lead.new) }
@@ -184,6 +186,7 @@ pub(crate) fn drive<T: Tool, H: Host + Send, P: Pacer, G: Gate, R: Wait>(
         master.old merger.old.shared merger.old.lines.items merger.old.refused lead.old mine.old (H.told host.old)
         (shows (P.period_shown pacer.old) (P.tally pacer.old) (P.answers pacer.old)) }
     ensures seat { IsOf course.now.ring.now lead.new × IsOpen lead.new × IsIdle course.now.ring.now mine.new }
+    ensures retired { lead.new.view.retired ≡ lead.old.view.retired }
     ensures cut { IfOk result (λ end. IsCutSoFar master.old.limits (Some end) master.new) }
     ensures tags { IfOk result (λ end. lead.new.view.lead.tags ≡ tags_from 0 master.new.cuts (Some end)) }
     ensures all { IfOk result (λ _. merged_by lead.new ≡ published_by lead.new) }

@@ -37,6 +37,7 @@ loop-turn-init g c =
     record {
       slots = c.slots-slots.ensures.count;
       seat = (can.seat.0, fresh.2, can.seat.2);
+      retired = refl;
       cut = cut_none c.args.master.now run.machine can.start;
       tags = fresh.0 ∙ sym (ap (λ (m : MasterState). tags_from 0 m.cuts None) can.start);
       behind = omega (arith, fresh.1);
@@ -72,6 +73,7 @@ loop-turn-preserved-then-outstanding-slots g c =
     record {
       slots = inv.slots;
       seat = (told.seat.0, told.seat.1, inv.seat.2);
+      retired = told.retired ∙ inv.retired;
       cut = subst (λ (l : Limits). IsCutSoFar l c.in-Ok.ended c.publish_next.new.master) inv.cut.limits_are told.cut;
       tags = told.tags;
       behind = longer_by_one lead.view.lead.tags later.view.lead.tags tag (merged_by lead) (merged_by later) told.more.1 inv.behind told.seat.2;
@@ -103,6 +105,7 @@ loop-turn-preserved g c =
     record {
       slots = inv.slots;
       seat = merged.seat;
+      retired = merged.retired ∙ inv.retired;
       cut = inv.cut;
       tags = merged.tags ∙ inv.tags;
       behind = merged.within;

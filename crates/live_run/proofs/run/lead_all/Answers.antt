@@ -28,6 +28,7 @@ returns g c =
     let over : IsOver c.close.new.lead = (ap (λ (s : SeatView _). s.view.lead.closed) c.close.ensures, ap merged_by c.close.ensures ∙ (drained.all ∙ sym (ap (λ (s : SeatView _). length s.view.lead.tags) c.close.ensures))) in
     record {
       seat = (of, over, drained.seat.2);
+      none_retired = ap (λ (s : SeatView _). s.view.retired) c.close.ensures ∙ (drained.retired ∙ driven.retired);
       cut = driven.cut;
       tags = IfOk-weaker c.drive-result.result _ _ (λ end is. tags ∙ is) driven.tags;
       sound = driven.sound;
