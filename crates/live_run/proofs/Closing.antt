@@ -1,5 +1,5 @@
 -- What a live run gives at its end, for the machine, the limits and the pacer that it was launched with.
-use Rattle.std.proofs.Common.{◌≡◌, ℕ, ◌^◌, ◌<◌, List, sym, ap, subst}
+use Rattle.std.proofs.Common.{◌≡◌, ℕ, ◌^◌, ◌<◌, List, sym, subst}
 use Rattle.std.specs.Prelude.{Some}
 use Rattle.sp_host.specs.Told.{Told}
 use Rattle.guest_model.specs.Call.{World}

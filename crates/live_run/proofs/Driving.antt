@@ -1,12 +1,12 @@
 -- The course of a live run: how far it came, and what was merged.
-use Rattle.std.proofs.Common.{◌≡◌, ℕ, suc, ◌+◌, ◌-◌, ◌^◌, ◌<◌, ◌≤◌, Bool, List, [], ◌∷◌, ◌++◌, length, take, refl, sym, ap, subst, ◌∙◌, ◌⊎◌, inl, inr, arith, length-append, Result, Ok, Err}
+use Rattle.std.proofs.Common.{◌≡◌, ℕ, suc, ◌+◌, ◌^◌, ◌<◌, ◌≤◌, Bool, List, [], ◌∷◌, ◌++◌, length, take, refl, sym, ap, subst, ◌∙◌, ◌⊎◌, inl, inr, arith, length-append, Result, Ok, Err}
 use Rattle.std.specs.Prelude.{IfOk, OnOk, Option, None, Some}
 use Rattle.std.proofs.lemmas.Bool.{cases_lt}
 use mathlib.Core.Option.{some}
 use lib.ListN.{get_elem?}
 use Rattle.sp_host.specs.Told.{Told}
 use Rattle.guest_model.specs.Machine.{Machine}
-use Rattle.guest_model.specs.Runs.{Ended, Running}
+use Rattle.guest_model.specs.Runs.{Running}
 use Rattle.guest_model.specs.Serial.{EndsAt, Position, position_at, run_of, step_of}
 use Rattle.guest_model.specs.Serial as serial
 use Rattle.guest_model.proofs.Runs.{over_later}

@@ -1,9 +1,9 @@
 -- A run that came to its end, all of whose jobs were merged.
-use Rattle.std.proofs.Common.{◌≡◌, ℕ, ◌+◌, ◌^◌, ◌<◌, List, map, sym, subst, arith}
+use Rattle.std.proofs.Common.{◌≡◌, ℕ, ◌^◌, ◌<◌, List, map, sym, subst, arith}
 use Rattle.std.specs.Prelude.{Some}
 use Rattle.std.specs.List.{AllZip}
 use Rattle.sp_host.specs.Told.{Told}
-use Rattle.guest_model.specs.Serial.{Position, TraceItem}
+use Rattle.guest_model.specs.Serial.{Position}
 use Rattle.ins_views.specs.Views.{ViewFields}
 use Rattle.insert_points.specs.Plan.{PlanFields, called_at}
 use Rattle.insert_points.specs.declared.call.Call.{Call}

@@ -1,5 +1,5 @@
 -- The pieces of a run's jobs.
-use Rattle.std.proofs.Common.{◌≡◌, ℕ, zero, suc, ◌+◌, ◌-◌, ◌*◌, ◌^◌, ◌<◌, ◌≤◌, List, [], ◌∷◌, ◌++◌, length, map, refl, sym, ap, subst, ◌∙◌, arith, length-append, Result}
+use Rattle.std.proofs.Common.{◌≡◌, ℕ, zero, suc, ◌+◌, ◌-◌, ◌^◌, ◌<◌, ◌≤◌, List, [], ◌∷◌, ◌++◌, length, map, refl, sym, ap, subst, ◌∙◌, arith, length-append, Result}
 use Rattle.std.specs.Prelude.{IfOk}
 use Rattle.std.proofs.lemmas.Result.{IfOk-weaker}
 use Rattle.std.specs.List.{AllZip}
@@ -13,7 +13,7 @@ use Rattle.insert_points.specs.Plan.{PlanFields}
 use Rattle.insert_points.specs.declared.call.Event.{Event}
 use Rattle.boundary_verify.specs.Job.{JobFields, path_of}
 use Rattle.boundary_verify.specs.Lines.{IsLineOf, Line}
-use Rattle.boundary_verify.specs.Path.{IsMatch, Path, last_path, path_between, path_trace}
+use Rattle.boundary_verify.specs.Path.{IsMatch, Path, last_path, path_trace}
 use Rattle.boundary_verify.specs.Pieces.{IsPiece}
 use Rattle.boundary_verify.proofs.Ends.{ends_once}
 use Rattle.boundary_verify.proofs.Joins.{match_once}
@@ -27,7 +27,7 @@ use Rattle.sliced_run.proofs.Lists.{joined_push, map_push, zip_push}
 use Rattle.tool_law.specs.Law.{Merges}
 use Rattle.tool_law.specs.declared.piece.Piece.{Piece}
 use Rattle.tool_step.specs.Steps.{item_events, trace_events}
-use Rattle.live_run.specs.Live.{HasFewEvents, IsJobOfRun, IsPathBetween, IsPieceBetween, IsPieceOfPath, IsPieceOfRun, IsPieceUpTo, IsWithin, LastsBetween, most_steps}
+use Rattle.live_run.specs.Live.{HasFewEvents, IsJobOfRun, IsPathBetween, IsPieceBetween, IsPieceOfPath, IsPieceOfRun, IsPieceUpTo, IsWithin, LastsBetween}
 use Rattle.live_run.specs.Merged.{HasMerged}
 use Rattle.live_run.specs.Tags.{end_at, path_of_tag, path_to, reached_by}
 

@@ -1,23 +1,22 @@
 -- The jobs that a master hands out, as they are published.
-use Rattle.std.proofs.Common.{◌≡◌, ℕ, zero, suc, ◌+◌, ◌-◌, ◌^◌, ◌<◌, ◌≤◌, List, [], ◌∷◌, ◌++◌, length, get_or, refl, sym, ap, subst, ◌∙◌, arith, length-append, Result, Ok, Err}
-use Rattle.std.specs.Prelude.{Option, None, Some}
+use Rattle.std.proofs.Common.{◌≡◌, ℕ, zero, suc, ◌+◌, ◌-◌, ◌^◌, ◌<◌, List, [], ◌∷◌, ◌++◌, length, get_or, refl, sym, ap, subst, ◌∙◌, arith, length-append, Ok}
+use Rattle.std.specs.Prelude.{None, Some}
 use Rattle.sp_host.specs.Told.{Told}
 use Rattle.guest_model.specs.Machine.{Machine}
 use Rattle.guest_model.specs.Serial.{EndsAt, Position}
 use Rattle.boundary_verify.specs.Job.{JobFields, Lasts, path_of}
 use Rattle.boundary_verify.specs.Path.{Path, last_path, path_between}
 use Rattle.master_run.specs.Answers.{PacerState}
-use Rattle.master_run.specs.Master.{MasterState, Ready}
-use Rattle.master_run.specs.Turn.{EndsAtCut, EndsWithRun, HandsOutOfRun, RunIsOver}
-use Rattle.master_run.specs.declared.limits.Limits.{Limits}
+use Rattle.master_run.specs.Master.{MasterState}
+use Rattle.master_run.specs.Turn.{EndsAtCut, EndsWithRun, HandsOut, HandsOutOfRun}
 use Rattle.master_run.specs.declared.master.Turn.{Turn}
 use Rattle.master_run.specs.declared.master.Turn.TheVariants as turns
 use Rattle.rv_machine.specs.declared.step.End.{End}
 use Rattle.serial_run.specs.Start.{start_of}
-use Rattle.slice_ring.specs.Ticket.{Tag}
+use Rattle.slice_ring.specs.Ticket.{Tag, Ticket}
 use Rattle.sp_report.specs.Lines.{end_by}
-use Rattle.live_run.specs.Live.{IsJobOfRun, IsPathBetween, LastsBetween, WhereStarted}
-use Rattle.live_run.specs.Merged.{IsCutSoFar, last_cut}
+use Rattle.live_run.specs.Live.{IsJobOfRun, IsPathBetween, LastsBetween, RunStart, WhereStarted}
+use Rattle.live_run.specs.Merged.{IsCutSoFar, IsRun, last_cut}
 use Rattle.live_run.specs.Tags.{tags_from}
 use Rattle.live_run.proofs.Tags.{as_many_tags, last_more, tags_last, tags_more}
 
@@ -32,6 +31,22 @@ is_between p b (suc c) path some is = is
 -- where the new master's last cut lies
 pub cut_here : (old new : MasterState) (job : JobFields) → EndsAtCut old job new → last_cut 0 new.cuts ≡ new.position
 cut_here old new job is = ap (last_cut 0) is.cuts ∙ last_more 0 new.position old.cuts
+
+-- the turn that hands out a job up to the next cut
+pub at_cut : (old new : MasterState) (turn : Turn) (job : JobFields) → turn ≡ turns.Job job → HandsOut old turn new → EndsAtCut old job new
+at_cut old new turn job is h = subst (λ (k : Turn). HandsOut old k new) is h
+
+pub cut_in_run : (t : Told) (p : Position) (first : PacerState) (old new : MasterState) (turn : Turn) (job : JobFields) (told : Told) (now : PacerState) → turn ≡ turns.Job job → HandsOutOfRun t p first old (Ok turn) new told now
+    → IsRun t p first None new told now × (path_of job ≡ path_between p old.position new.position)
+cut_in_run t p first old new turn job told now is h = subst (λ (k : Turn). HandsOutOfRun t p first old (Ok k) new told now) is h
+
+-- the turn that hands out the last job
+pub at_end : (old new : MasterState) (turn : Turn) (job : JobFields) (end : End) → turn ≡ turns.Last job end → HandsOut old turn new → EndsWithRun old job new
+at_end old new turn job end is h = subst (λ (k : Turn). HandsOut old k new) is h
+
+pub end_in_run : (t : Told) (p : Position) (first : PacerState) (old new : MasterState) (turn : Turn) (job : JobFields) (end : End) (told : Told) (now : PacerState) → turn ≡ turns.Last job end → HandsOutOfRun t p first old (Ok turn) new told now
+    → IsRun t p first (Some end) new told now × (path_of job ≡ last_path p old.position new.position)
+end_in_run t p first old new turn job end told now is h = subst (λ (k : Turn). HandsOutOfRun t p first old (Ok k) new told now) is h
 
 -- the job up to the next cut
 pub cut_job : (launch : Told) (m : Machine) (old new : MasterState) (job : JobFields) (b c : ℕ) → IsCutSoFar old.limits None old → EndsAtCut old job new → b ≡ last_cut 0 old.cuts → c ≡ last_cut 0 new.cuts
@@ -56,23 +71,15 @@ last_job launch m old new job end b cut is from paths =
     }
 
 -- what is so of the master behind a job
-pub cut_more : (old new : MasterState) (job : JobFields) → IsCutSoFar old.limits None old → EndsAtCut old job new → new.limits ≡ old.limits → new.standing ≡ Ready → IsCutSoFar old.limits None new
-cut_more old new job cut is limits ready =
+pub cut_more : (old new : MasterState) (job : JobFields) → IsCutSoFar old.limits None old → EndsAtCut old job new → new.limits ≡ old.limits → IsCutSoFar old.limits None new
+cut_more old new job cut is limits =
     let longer : length (old.cuts ++ new.position ∷ []) ≡ length old.cuts + 1 = simp length-append in
     record {
-      ready = (ready, sym (cut_here old new job is));
+      ready = (is.ready, sym (cut_here old new job is));
       few = omega (arith, cut.few, is.later, ap length is.cuts, longer);
       within = is.within;
       limits_are = limits;
     }
-
-pub cut_last : (old new : MasterState) (job : JobFields) (end : End) → IsCutSoFar old.limits None old → EndsWithRun old job new → new.limits ≡ old.limits → IsCutSoFar old.limits (Some end) new
-cut_last old new job end cut is limits = record {
-  ready = tt;
-  few = omega (arith, cut.few, is.later, ap length is.cuts);
-  within = omega (arith, is.within);
-  limits_are = limits;
-}
 
 -- the tags with the job's
 pub published_more : (old new : MasterState) (job : JobFields) (tags : List Tag) (b c : ℕ) → EndsAtCut old job new → tags ≡ tags_from 0 old.cuts None → b ≡ last_cut 0 old.cuts → c ≡ last_cut 0 new.cuts → tags ++ (b, c) ∷ [] ≡ tags_from 0 new.cuts None
@@ -87,9 +94,11 @@ published_last old new job end tags b is are from =
     ap (λ (ts : List Tag). ts ++ (b, 0) ∷ []) are
     ∙ (ap (λ (n : ℕ). tags_from 0 old.cuts None ++ (n, 0) ∷ []) from ∙ (sym (tags_last 0 old.cuts end) ∙ ap (λ (cuts : List ℕ). tags_from 0 cuts (Some end)) (sym is.cuts)))
 
--- the number of the job
-pub next_number : (old : MasterState) (tags : List Tag) (index : ℕ) → tags ≡ tags_from 0 old.cuts None → index ≡ length old.cuts → index ≡ length tags
-next_number old tags index are is = is ∙ sym (ap length are ∙ as_many_tags 0 old.cuts)
+-- the ticket of the job is the next one of its ring
+pub next_ticket : {X : Type 0} (old : MasterState) (tags : List Tag) (number : ℕ) (tag : Tag) (run topic : RunStart X) (ticket : Ticket (RunStart X)) → ticket ≡ record { number = number; tag = tag; topic = run } → tags ≡ tags_from 0 old.cuts None
+    → number ≡ length old.cuts → topic ≡ run → (ticket.number ≡ length tags) × (ticket.topic ≡ topic)
+next_ticket {X} old tags number tag run topic ticket is are place same =
+    (ap (λ (k : Ticket (RunStart X)). k.number) is ∙ (place ∙ sym (ap length are ∙ as_many_tags 0 old.cuts)), ap (λ (k : Ticket (RunStart X)). k.topic) is ∙ sym same)
 
 -- the last of a list's elements, by its place
 last_from : (b c : ℕ) (cuts : List ℕ) → get_or (c ∷ cuts) (length cuts) b ≡ last_cut c cuts

@@ -1,5 +1,5 @@
 -- The tags of a run's jobs, one after the other.
-use Rattle.std.proofs.Common.{◌≡◌, ℕ, zero, suc, ◌+◌, ◌-◌, ◌<◌, ◌≤◌, List, [], ◌∷◌, ◌++◌, drop, length, take, refl, sym, ap, subst, ◌∙◌, arith}
+use Rattle.std.proofs.Common.{◌≡◌, ℕ, zero, suc, ◌+◌, ◌-◌, ◌<◌, ◌≤◌, List, [], ◌∷◌, ◌++◌, drop, length, take, refl, sym, ap, subst, arith, length-append}
 use Rattle.std.specs.Prelude.{Option, None, Some}
 use Rattle.std.specs.List.{All, AllZip}
 use Rattle.std.proofs.lemmas.List.{length-take-le}
@@ -15,7 +15,7 @@ use Rattle.rv_machine.specs.declared.step.End.{End}
 use Rattle.slice_ring.specs.Ticket.{Tag}
 use Rattle.live_run.specs.Live.{IsWithin}
 use Rattle.live_run.specs.Merged.{IsChain, last_cut}
-use Rattle.live_run.specs.Tags.{end_at, path_of_tag, reached_by, tags_from}
+use Rattle.live_run.specs.Tags.{path_of_tag, reached_by, tags_from}
 
 -- one cut more
 pub tags_more : (b c : ℕ) (cuts : List ℕ) → tags_from b (cuts ++ c ∷ []) None ≡ tags_from b cuts None ++ (last_cut b cuts, c) ∷ []
@@ -87,3 +87,13 @@ all_but_last P xs ys n is len enough all =
 
 pub all_of_both : {X : Type 0} (P : X → Type 0) (ys xs : List X) (n m : ℕ) → All P ys → All P xs → All P (take n (ys ++ drop m xs))
 all_of_both P ys xs n m first all = All-take P n (ys ++ drop m xs) (All-append P ys (drop m xs) first (All-drop P m xs all))
+
+as_many_of_both : {X : Type 0} (ys xs : List X) (n m : ℕ) → length ys ≡ n → m ≡ length ys → length (take n (ys ++ drop m xs)) ≡ n
+as_many_of_both ys xs n m same whole =
+    let size : length (ys ++ drop m xs) ≡ length ys + length (drop m xs) = simp length-append in length-take-le n (ys ++ drop m xs) (omega (arith, size, same))
+
+-- all seats, of which one was taken back, and then the others, as many as this list has
+pub all_taken_back : {X : Type 0} (ys xs seats : List X) (n before own after : ℕ) → xs ≡ take (length seats - 1) seats → n ≡ length xs → length ys ≡ length xs → 2 ≤ length seats → own ≡ before + 1 → after ≡ own + length (take n (ys ++ drop (length ys) xs)) → after ≡ before + length seats
+all_taken_back ys xs seats n before own after are len same enough first others =
+    let size : length (take (length seats - 1) seats) ≡ length seats - 1 = length-take-le (length seats - 1) seats (omega arith) in
+    let rest : length (take n (ys ++ drop (length ys) xs)) ≡ n = as_many_of_both ys xs n (length ys) (omega (arith, len, same)) refl in omega (arith, ap length are, size, len, enough, first, others, rest)

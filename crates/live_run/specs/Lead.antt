@@ -1,5 +1,5 @@
 -- The lead's part of a live run: what it is given, and what it leaves.
-use Rattle.std.specs.Prelude.{◌≡◌, ℕ, Bool, false, List, [], Option, None, Some, Result, IfErr, IfOk}
+use Rattle.std.specs.Prelude.{◌≡◌, ℕ, Bool, false, List, [], None, Some, Result, IfErr, IfOk}
 use Rattle.sp_host.specs.Faults.{CausedIn, Faults}
 use Rattle.sp_host.specs.Told.{Told}
 use Rattle.insert_points.specs.Plan.{PlanFields}
@@ -27,10 +27,11 @@ module _ {X S : Type 0} (is_value : List Event → S → Type 0) (ring : RingId 
     pub merger : (lines ≡ []) × (refused ≡ false) × is_value [] shared
     pub begun : WhereStarted run.told run.machine (λ t p. IsRun t p first None master told now)
 
-  -- the ring is over, and all jobs of a run that ended were published and merged
-  pub record HasLed {L : Type 0} (stands : List Event → L → Type 0) (plan : PlanFields) (first : PacerState) (limits : Limits) (result : Result End RunFault) (master : MasterState) (shared : S) (lines : List SliceLine) (refused : Bool) (lead mine : SeatView (RunStart X))
+  -- the ring is over, and all jobs of a run that ended were published and merged; the lead took back as many seats as before
+  pub record HasLed {L : Type 0} (stands : List Event → L → Type 0) (plan : PlanFields) (first : PacerState) (limits : Limits) (result : Result End RunFault) (master : MasterState) (shared : S) (lines : List SliceLine) (refused : Bool) (retired : ℕ) (lead mine : SeatView (RunStart X))
       (before after : Faults) (told : Told) (shown now : PacerState) : Type 0 where
     pub seat : IsOf ring lead × IsOver lead × IsIdle ring mine
+    pub none_retired : lead.view.retired ≡ retired
     pub cut : IfOk result (λ end. IsCutSoFar limits (Some end) master)
     pub tags : IfOk result (λ end. lead.view.lead.tags ≡ tags_from 0 master.cuts (Some end))
     pub sound : IfOk result (λ end. refused ≡ false)

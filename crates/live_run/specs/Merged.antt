@@ -4,7 +4,6 @@ use Rattle.std.specs.List.{AllZip}
 use mathlib.Core.Option.{some}
 use lib.ListN.{get_elem?}
 use Rattle.sp_host.specs.Told.{Told}
-use Rattle.guest_model.specs.Machine.{Machine}
 use Rattle.guest_model.specs.Serial.{EndsAt, Position, TraceItem}
 use Rattle.guest_model.specs.Serial as serial
 use Rattle.insert_points.specs.Plan.{PlanFields}

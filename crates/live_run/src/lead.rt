@@ -2,10 +2,10 @@
 ghost use Rattle.std.specs.Prelude.{◌≡◌, ◌+◌, ◌++◌, ◌∷◌, [], ◌<◌, ◌≤◌, None, Some, IfErr, IfOk, OnOk, length, take, false};
 ghost use Rattle.sp_host.specs.Faults.{CausedIn};
 ghost use Rattle.syscall_layer.specs.Step.{IsOfGuest, run_source_of};
-ghost use Rattle.master_run.specs.Master.{start_at};
-ghost use Rattle.slice_ring.specs.Seats.{IsFresh, IsIdle, IsOf, IsOpen, merged_by, published_by, slots_of};
+ghost use Rattle.slice_ring.specs.Seats.{IsIdle, IsOf, IsOpen, merged_by, published_by, slots_of};
 ghost use Rattle.slice_ring.specs.Ticket.{Tag};
 ghost use Rattle.sliced_run.specs.Sliced.{shows};
+ghost use Rattle.live_run.specs.Lead.{CanLead};
 ghost use Rattle.live_run.specs.Live.{IsJobOfRun, WhereStarted};
 ghost use Rattle.live_run.specs.Merged.{DriveGives, IsCutSoFar, IsRun, MergesMore, MergesNext, RunGives, last_cut};
 ghost use Rattle.live_run.specs.Tags.{tags_from};
@@ -79,6 +79,7 @@ fn publish_next<T: Tool, H: Host + Send, P: Pacer, G: Gate>(
         None master.old (H.told host.old)
         (shows (P.period_shown pacer.old) (P.tally pacer.old) (P.answers pacer.old))) }
     ensures seat { IsOf course.now.ring.now lead.new × IsOpen lead.new × (merged_by lead.new ≡ merged_by lead.old) }
+    ensures retired { lead.new.view.retired ≡ lead.old.view.retired }
     ensures cut { IfOk result (λ ended. IsCutSoFar master.old.limits ended master.new) }
     ensures tags { IfOk result (λ ended. lead.new.view.lead.tags ≡ tags_from 0 master.new.cuts ended) }
     ensures more { IfOk result (λ _. (tag : Tag) × (lead.new.view.lead.tags ≡ lead.old.view.lead.tags ++ tag ∷ [])) }
@@ -147,6 +148,7 @@ fn merge_next<T: Tool, H: Host + Send, P: Pacer, G: Gate>(
     requires count { length merger.old.lines.items ≡ merged_by lead.old }
     requires sound { merger.old.refused ≡ false }
     ensures seat { IsOf course.now.ring.now lead.new × IsOpen lead.new × IsIdle course.now.ring.now mine.new }
+    ensures retired { lead.new.view.retired ≡ lead.old.view.retired }
     ensures tags { lead.new.view.lead.tags ≡ lead.old.view.lead.tags }
     ensures within { merged_by lead.new ≤ published_by lead.new }
     ensures count { OnOk result (length merger.new.lines.items ≡ merged_by lead.new) }
@@ -178,19 +180,13 @@ pub(crate) fn drive<T: Tool, H: Host + Send, P: Pacer, G: Gate, R: Wait>(
     host: &mut H,
     pacer: &mut P,
 ) -> Result<End, RunFault>
-    requires seat { IsOf course.now.ring.now lead.old × IsFresh lead.old × IsIdle course.now.ring.now mine.old }
-    requires run { course.now.ring.now.topic ≡ course.now.run }
-    requires tool { course.now.run.tool ≡ course.now.work.now.tool.now }
-    requires plan { course.now.run.plan ≡ course.now.work.now.plan.now }
-    requires start { master.old ≡ start_at course.now.run.machine master.old.limits }
-    requires merger { (merger.old.lines.items ≡ []) × (merger.old.refused ≡ false)
-        × T.is_value course.now.work.now.tool.now [] merger.old.shared }
-    requires begun { WhereStarted course.now.run.told course.now.run.machine
-        (λ t p. IsRun t p
+    requires can { CanLead (T.is_value course.now.work.now.tool.now) course.now.ring.now course.now.run
+        course.now.work.now.tool.now course.now.work.now.plan.now
         (shows (P.period_shown course.now.pacer.value) (P.tally course.now.pacer.value) (P.answers course.now.pacer.value))
-        None master.old (H.told host.old)
-        (shows (P.period_shown pacer.old) (P.tally pacer.old) (P.answers pacer.old))) }
+        master.old merger.old.shared merger.old.lines.items merger.old.refused lead.old mine.old (H.told host.old)
+        (shows (P.period_shown pacer.old) (P.tally pacer.old) (P.answers pacer.old)) }
     ensures seat { IsOf course.now.ring.now lead.new × IsOpen lead.new × IsIdle course.now.ring.now mine.new }
+    ensures retired { lead.new.view.retired ≡ lead.old.view.retired }
     ensures cut { IfOk result (λ end. IsCutSoFar master.old.limits (Some end) master.new) }
     ensures tags { IfOk result (λ end. lead.new.view.lead.tags ≡ tags_from 0 master.new.cuts (Some end)) }
     ensures all { IfOk result (λ _. merged_by lead.new ≡ published_by lead.new) }

@@ -1,5 +1,5 @@
 // The whole of a live run.
-ghost use Rattle.std.specs.Prelude.{◌≡◌, ◌<◌, ◌≤◌, ◌^◌, ℕ, [], None, Some, All, IfErr, IfOk, false, length};
+ghost use Rattle.std.specs.Prelude.{◌≡◌, ◌+◌, ◌<◌, ◌≤◌, ◌^◌, ℕ, [], None, Some, All, IfErr, IfOk, false, length};
 ghost use Rattle.sp_host.specs.Faults.{CausedIn};
 ghost use Rattle.sp_host.specs.Told.{Told};
 ghost use Rattle.guest_model.specs.Call.{World};
@@ -68,6 +68,7 @@ fn drain<T: Tool, H: Host + Send, P: Pacer, G: Gate, R: Wait>(
     requires tool { course.now.run.tool ≡ course.now.work.now.tool.now }
     requires plan { course.now.run.plan ≡ course.now.work.now.plan.now }
     ensures seat { IsOf course.now.ring.now lead.new × IsOpen lead.new × IsIdle course.now.ring.now mine.new }
+    ensures retired { lead.new.view.retired ≡ lead.old.view.retired }
     ensures all { merged_by lead.new ≡ published_by lead.new }
     ensures tags { lead.new.view.lead.tags ≡ lead.old.view.lead.tags }
 {
@@ -102,7 +103,7 @@ fn lead_all<T: Tool, H: Host + Send, P: Pacer, G: Gate, R: Wait>(
         (T.is_local course.now.work.now.tool.now) course.now.work.now.plan.now
         (shows (P.period_shown course.now.pacer.value) (P.tally course.now.pacer.value) (P.answers course.now.pacer.value))
         master.old.limits result master.new merger.new.shared merger.new.lines.items merger.new.refused
-        lead.new mine.new (H.faults host.old) (H.faults host.new) (H.told host.new)
+        lead.old.view.retired lead.new mine.new (H.faults host.old) (H.faults host.new) (H.told host.new)
         (shows (P.period_shown pacer.old) (P.tally pacer.old) (P.answers pacer.old))
         (shows (P.period_shown pacer.new) (P.tally pacer.new) (P.answers pacer.new)) }
 {
@@ -135,7 +136,7 @@ fn lead_beside<'a, T: Tool, H: Host + Send, P: Pacer, G: Gate + Sync, R: Threads
         (T.is_local course.now.work.now.tool.now) course.now.work.now.plan.now
         (shows (P.period_shown course.now.pacer.value) (P.tally course.now.pacer.value) (P.answers course.now.pacer.value))
         master.old.limits result master.new merger.new.shared merger.new.lines.items merger.new.refused
-        lead.new mine.new (H.faults host.old) (H.faults host.new) (H.told host.new)
+        lead.old.view.retired lead.new mine.new (H.faults host.old) (H.faults host.new) (H.told host.new)
         (shows (P.period_shown pacer.old) (P.tally pacer.old) (P.answers pacer.old))
         (shows (P.period_shown pacer.new) (P.tally pacer.new) (P.answers pacer.new)) }
     ensures seats { All (IsIdle course.now.ring.now) seats.new }
@@ -158,7 +159,7 @@ fn lead_beside<'a, T: Tool, H: Host + Send, P: Pacer, G: Gate + Sync, R: Threads
                 (T.is_local course.entry.now.work.now.tool.now) course.entry.now.work.now.plan.now
                 (shows (P.period_shown course.entry.now.pacer.value) (P.tally course.entry.now.pacer.value) (P.answers course.entry.now.pacer.value))
                 master.entry.now.limits result master.exit.now merger.exit.now.shared merger.exit.now.lines.items merger.exit.now.refused
-                lead.exit.now mine.exit.now (H.faults host.entry.now) (H.faults host.exit.now) (H.told host.exit.now)
+                lead.entry.now.view.retired lead.exit.now mine.exit.now (H.faults host.entry.now) (H.faults host.exit.now) (H.told host.exit.now)
                 (shows (P.period_shown pacer.entry.now) (P.tally pacer.entry.now) (P.answers pacer.entry.now))
                 (shows (P.period_shown pacer.exit.now) (P.tally pacer.exit.now) (P.answers pacer.exit.now)) }
         { lead_all(rt, course, master, merger, lead, mine, host, pacer) },
@@ -191,6 +192,7 @@ fn run_crew<'a, T: Tool, H: Host + Send, P: Pacer, G: Gate + Sync, R: Threads + 
     requires plan { course.now.run.plan ≡ course.now.work.now.plan.now }
     requires launch { (course.now.run.told ≡ H.told host.old) × (pacer.old ≡ course.now.pacer.value) }
     ensures seat { IsOf course.now.ring.now lead.new × IsOver lead.new × IsIdle course.now.ring.now mine.new }
+    ensures retired { lead.new.view.retired ≡ lead.old.view.retired }
     ensures seats { All (IsIdle course.now.ring.now) seats.new }
     ensures tags { IfOk result (λ finished.
         lead.new.view.lead.tags ≡ tags_from 0 finished.cuts.items (Some finished.end)) }
@@ -247,7 +249,7 @@ fn know_pc(guest: &Guest)
 /// seats, which is its own. Each other seat works in a thread of its own. After each claim the gate is told of the slice, and
 /// then can hold it up.
 ///
-/// When it returns, the ring is closed, and all that was published is merged.
+/// When it returns, the ring is closed, all that was published is merged, and each seat was taken back.
 ///
 /// # Errors
 /// `Unsupported` where the run comes to a call without a row, `BudgetSpent` where it goes on after `limits.budget` steps;
@@ -278,8 +280,10 @@ pub fn run_live<T: Tool, H: Host + Send, P: Pacer + Send, G: Gate + Sync, R: Thr
     requires topic { (ring.now.topic.tool ≡ tool.now) × (ring.now.topic.plan ≡ plan.now)
         × (ring.now.topic.machine ≡ guest.machine) × (ring.now.topic.told ≡ H.told host.old) }
 
-    // When it returns, the ring is closed, and all that was published is merged: the jobs of the run, in order.
+    // When it returns, the ring is closed, and all that was published is merged: the jobs of the run, in order. Each seat of a
+    // worker was taken back.
     ensures over { IsOf ring.now lead.new × IsOver lead.new }
+    ensures retired { lead.new.view.retired ≡ lead.old.view.retired + length seats.items }
     ensures tags { IfOk result (λ finished.
         lead.new.view.lead.tags ≡ tags_from 0 finished.cuts.items (Some finished.end)) }
 

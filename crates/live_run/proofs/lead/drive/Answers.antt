@@ -1,16 +1,15 @@
-use Rattle.std.proofs.Common.{rules, ◌≡◌, ◌≤◌, ◌^◌, ap, length, refl, subst, sym, take, ◌∙◌, arith}
-use Rattle.std.specs.Prelude.{Option, None, Some}
+use Rattle.std.proofs.Common.{rules, ◌≡◌, ap, length, refl, subst, sym, ◌∙◌, arith}
+use Rattle.std.specs.Prelude.{Option, None}
 use denote.Param.Send.{sendable}
-use Rattle.sp_host.specs.Told.{Told}
 use Rattle.master_run.specs.Answers.{PacerState}
 use Rattle.master_run.specs.Master.{MasterState}
 use Rattle.master_run.specs.declared.limits.Limits.{Limits}
 use Rattle.rv_machine.specs.declared.step.End.{End}
 use Rattle.serial_run.specs.Start.{start_of}
-use Rattle.slice_ring.specs.Seats.{SeatView, merged_by}
+use Rattle.slice_ring.specs.Seats.{merged_by}
 use Rattle.sliced_run.specs.Sliced.{shows}
 use Rattle.live_run.specs.Live.{WhereStarted}
-use Rattle.live_run.specs.Merged.{HasMergedIf, IsCutSoFar, IsRun}
+use Rattle.live_run.specs.Merged.{IsCutSoFar, IsRun}
 use Rattle.live_run.specs.Tags.{tags_from}
 use Rattle.live_run.proofs.Driving.{cut_none, lacks_here, longer_by_one, merged_on, none_merged, still_merged}
 use Rattle.live_run.proofs.Sent.{job_send}
@@ -32,20 +31,22 @@ loop-turn-init g c =
     let plan = c.args.course.now.work.now.plan.now in
     let run = c.args.course.now.run in
     let lead = c.args.lead.now in
-    let fresh = c.requires.seat.1 in
+    let can = c.requires.can in
+    let fresh = can.seat.1 in
     let merger = c.args.merger.now in
     record {
       slots = c.slots-slots.ensures.count;
-      seat = (c.requires.seat.0, fresh.2, c.requires.seat.2);
-      cut = cut_none c.args.master.now run.machine c.requires.start;
-      tags = fresh.0 ∙ sym (ap (λ (m : MasterState). tags_from 0 m.cuts None) c.requires.start);
+      seat = (can.seat.0, fresh.2, can.seat.2);
+      retired = refl;
+      cut = cut_none c.args.master.now run.machine can.start;
+      tags = fresh.0 ∙ sym (ap (λ (m : MasterState). tags_from 0 m.cuts None) can.start);
       behind = omega (arith, fresh.1);
-      count = ap length c.requires.merger.0 ∙ sym fresh.1;
-      sound = c.requires.merger.1;
+      count = ap length can.merger.0 ∙ sym fresh.1;
+      sound = can.merger.1;
       same_faults = refl;
       same_period = refl;
-      so_far = c.requires.begun;
-      merged = λ t w same. none_merged stands is_value plan c.args.master.now.limits.budget (start_of run.machine w) lead.view.lead.tags (merged_by lead) merger.shared merger.lines.items fresh.1 c.requires.merger.2 c.requires.merger.0;
+      so_far = can.begun;
+      merged = λ t w same. none_merged stands is_value plan c.args.master.now.limits.budget (start_of run.machine w) lead.view.lead.tags (merged_by lead) merger.shared merger.lines.items fresh.1 can.merger.2 can.merger.0;
     }
 
 pub publish_next-requires-clause-told : goal.publish_next-requires-clause-told
@@ -72,6 +73,7 @@ loop-turn-preserved-then-outstanding-slots g c =
     record {
       slots = inv.slots;
       seat = (told.seat.0, told.seat.1, inv.seat.2);
+      retired = told.retired ∙ inv.retired;
       cut = subst (λ (l : Limits). IsCutSoFar l c.in-Ok.ended c.publish_next.new.master) inv.cut.limits_are told.cut;
       tags = told.tags;
       behind = longer_by_one lead.view.lead.tags later.view.lead.tags tag (merged_by lead) (merged_by later) told.more.1 inv.behind told.seat.2;
@@ -103,6 +105,7 @@ loop-turn-preserved g c =
     record {
       slots = inv.slots;
       seat = merged.seat;
+      retired = merged.retired ∙ inv.retired;
       cut = inv.cut;
       tags = merged.tags ∙ inv.tags;
       behind = merged.within;

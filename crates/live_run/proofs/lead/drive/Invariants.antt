@@ -17,6 +17,7 @@ invariant-loop-turn g l =
     let run = l.course.run in record {
       slots : l.slots ≡ slots_of l.course.ring.now;
       seat : IsOf l.course.ring.now l.lead × IsOpen l.lead × IsIdle l.course.ring.now l.mine;
+      retired : l.lead.view.retired ≡ l.fn.lead.view.retired;
       cut : IsCutSoFar l.fn.master.limits l.ended l.master;
       tags : l.lead.view.lead.tags ≡ tags_from 0 l.master.cuts l.ended;
       behind : merged_by l.lead ≤ length l.lead.view.lead.tags;

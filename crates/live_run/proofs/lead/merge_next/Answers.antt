@@ -1,4 +1,4 @@
-use Rattle.std.proofs.Common.{◌≡◌, ap, sym, ◌∙◌, arith}
+use Rattle.std.proofs.Common.{◌≡◌, ap, ◌∙◌}
 use denote.Param.Send.{sendable}
 use Rattle.slice_ring.specs.Seats.{SeatView, merged_by}
 use Rattle.slice_ring.specs.Ticket.{Ticket}

@@ -1,10 +1,9 @@
-use Rattle.std.proofs.Common.{rules, ◌≡◌, ap, length, sym, true, ◌∙◌}
+use Rattle.std.proofs.Common.{rules, ◌≡◌, ap, length, sym, ◌∙◌}
 use denote.Param.Send.{sendable}
 use Rattle.std.proofs.lemmas.Result.{IfOk-weaker}
 use Rattle.master_run.specs.Answers.{PacerState}
 use Rattle.serial_run.specs.Start.{start_of}
 use Rattle.slice_ring.specs.Seats.{IsOf, IsOver, SeatView, merged_by}
-use Rattle.slice_ring.specs.Ticket.{Tag}
 use Rattle.sliced_run.specs.Sliced.{shows}
 use Rattle.live_run.proofs.Driving.{all_merged}
 use Rattle.live_run.proofs.Sent.{job_send}
@@ -29,6 +28,7 @@ returns g c =
     let over : IsOver c.close.new.lead = (ap (λ (s : SeatView _). s.view.lead.closed) c.close.ensures, ap merged_by c.close.ensures ∙ (drained.all ∙ sym (ap (λ (s : SeatView _). length s.view.lead.tags) c.close.ensures))) in
     record {
       seat = (of, over, drained.seat.2);
+      none_retired = ap (λ (s : SeatView _). s.view.retired) c.close.ensures ∙ (drained.retired ∙ driven.retired);
       cut = driven.cut;
       tags = IfOk-weaker c.drive-result.result _ _ (λ end is. tags ∙ is) driven.tags;
       sound = driven.sound;

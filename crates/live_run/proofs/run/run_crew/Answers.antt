@@ -1,10 +1,8 @@
-use Rattle.std.proofs.Common.{◌≡◌, ◌^◌, ap, arith, subst, sym, ◌∙◌}
-use Rattle.std.specs.Prelude.{Some, Vec}
+use Rattle.std.proofs.Common.{◌≡◌, ap, sym, ◌∙◌}
+use Rattle.std.specs.Prelude.{Vec}
 use denote.Param.Send.{sendable}
-use Rattle.guest_model.specs.Serial.{Position}
 use Rattle.master_run.specs.Answers.{PacerState}
 use Rattle.master_run.specs.Master.{MasterState}
-use Rattle.master_run.specs.declared.limits.Limits.{Limits}
 use Rattle.ordered_merge.specs.declared.merger.SliceLine.{SliceLine}
 use Rattle.serial_run.specs.Start.{start_of}
 use Rattle.sliced_run.specs.Sliced.{shows}
