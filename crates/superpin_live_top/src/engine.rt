@@ -1,17 +1,13 @@
 // The engine of a live run.
-ghost use Rattle.std.specs.Prelude.{◌≡◌, ◌<◌, ◌≤◌, ◌^◌, ℕ, List, [], IfErr};
+ghost use Rattle.std.specs.Prelude.{◌≡◌, ◌<◌, ◌≤◌, ◌^◌, ℕ, IfErr};
 ghost use Rattle.sp_host.specs.Faults.{CausedIn};
-ghost use Rattle.sp_host.specs.Told.{Told};
 ghost use Rattle.guest_mem.specs.Frames.{free_frames};
-ghost use Rattle.guest_model.specs.Call.{World};
-ghost use Rattle.guest_model.specs.Serial.{TraceItem};
 ghost use Rattle.insert_points.specs.Plan.{called_at};
-ghost use Rattle.syscall_layer.specs.Serve.{told_after};
 ghost use Rattle.syscall_layer.specs.Step.{IsOfGuest, run_source_of};
 ghost use Rattle.tool_law.specs.Events.{trace_events};
 ghost use Rattle.tool_law.specs.Planning.{called_of};
 ghost use Rattle.sliced_run.specs.Sliced.{shows};
-ghost use Rattle.superpin_top.specs.Engine.{EngineGives, engine_by, frames_by, run_from};
+ghost use Rattle.superpin_top.specs.Engine.{EngineTells, frames_by};
 
 use ins_views::Views;
 use insert_points::Plan;
@@ -52,12 +48,10 @@ pub(crate) fn run_guest<
     requires frames { guest.frames ≡ free_frames (frames_by how.by how.limits.frames) }
     requires by { how.by ≡ By.Windows }
     requires workers { (1 ≤ workers) × (workers ≤ 16) }
-    ensures told { (text : List TraceItem → List ℕ) (t : Told) (w : World) → H.told host.old ≡ told_after t w [] →
-        EngineGives (λ items s. T.is_value tool.now
-        (trace_events (T.calls_of tool.now) views.now items) s) t
-        (run_from guest.machine (record { text = text; grows = T.GROWS }) (engine_by how) w)
-        (shows (P.period_shown pacer.old) (P.tally pacer.old) (P.answers pacer.old))
-        result (H.told host.new)
+    ensures told { EngineTells
+        (λ items s. T.is_value tool.now (trace_events (T.calls_of tool.now) views.now items) s)
+        T.GROWS guest.machine how (H.told host.old)
+        (shows (P.period_shown pacer.old) (P.tally pacer.old) (P.answers pacer.old)) result (H.told host.new)
         (shows (P.period_shown pacer.new) (P.tally pacer.new) (P.answers pacer.new)) }
     ensures faults { CausedIn run_source_of (H.faults host.old) (H.faults host.new) result }
     ensures port { IfErr result IsOfGuest }

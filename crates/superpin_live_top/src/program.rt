@@ -1,11 +1,9 @@
 // What the program does between the system and the top call.
-ghost use Rattle.std.specs.Prelude.{◌≡◌, IfErr, IfOk};
-ghost use Rattle.sp_report.specs.Answer.{exit_code_of};
-ghost use Rattle.sp_report.specs.declared.answer.Answer.{Answer};
+ghost use Rattle.std.specs.Prelude.{IfErr, IfOk};
 ghost use Rattle.sliced_run.specs.Sliced.{shows};
+ghost use Rattle.superpin_top.specs.Answered.{ExitsAt, ExitsUnread};
 ghost use Rattle.superpin_top.specs.Due.{texts};
-ghost use Rattle.superpin_top.specs.Outcome.{Outcome, WritesLine};
-ghost use Rattle.superpin_live_top.specs.Due.{WhereLiveDue};
+ghost use Rattle.superpin_live_top.specs.Due.{live_task_of};
 
 use crate::top::superpin_live;
 use sp_host::{FreeGate, Gate, Host, Pacer, StdHost, TimePacer};
@@ -26,14 +24,12 @@ pub fn answer_live_words<H: Host + Send, P: Pacer + Send, G: Gate + Sync, R: Thr
     pacer: &mut P,
     gate: &G,
 ) -> u8
-    ensures read { IfOk words (λ words. WhereLiveDue (H.told host.old) (texts words.items) (λ task w.
-        (answer : Answer) × (result ≡ exit_code_of answer) ×
-        Outcome (H.told host.old) task w
+    ensures read { IfOk words (λ words. ExitsAt (live_task_of (texts words.items)) (H.told host.old) (H.faults host.old)
         (shows (P.period_shown pacer.old) (P.tally pacer.old) (P.answers pacer.old))
-        (H.faults host.old) answer (H.told host.new) (H.faults host.new)
-        (shows (P.period_shown pacer.new) (P.tally pacer.new) (P.answers pacer.new)))) }
-    ensures unread { IfErr words (λ refusal. (result ≡ 125) ×
-        WritesLine refusal (H.told host.old) (H.told host.new) (H.faults host.old) (H.faults host.new)) }
+        result (H.told host.new) (H.faults host.new)
+        (shows (P.period_shown pacer.new) (P.tally pacer.new) (P.answers pacer.new))) }
+    ensures unread { IfErr words (λ refusal. ExitsUnread refusal result (H.told host.old) (H.told host.new)
+        (H.faults host.old) (H.faults host.new)) }
 {
     match words {
         Ok(words) => {

@@ -1,17 +1,13 @@
 // A program's live run with a tool, and its report.
-ghost use Rattle.std.specs.Prelude.{◌≡◌, ◌≤◌, List, ℕ, IfErr, MatchResult, Ok, Some, true};
+ghost use Rattle.std.specs.Prelude.{◌≡◌, ◌≤◌, IfErr, true};
 ghost use Rattle.guest_mem.specs.Frames.{free_frames};
-ghost use Rattle.guest_model.specs.Call.{World};
 ghost use Rattle.ins_views.specs.Views.{views_of};
-ghost use Rattle.rv_machine.specs.Load.{machine_of};
 ghost use Rattle.sp_words.specs.Sizes.{has_sizes};
 ghost use Rattle.sp_words.specs.Tools.{meaning_of, with_calls};
 ghost use Rattle.sliced_run.specs.Sliced.{shows};
-ghost use Rattle.superpin_top.specs.Causes.{CausedBy};
-ghost use Rattle.superpin_top.specs.Due.{Runs};
-ghost use Rattle.superpin_top.specs.Engine.{frames_by, program_by};
-ghost use Rattle.superpin_top.specs.Outcome.{AttemptGives};
-ghost use Rattle.superpin_top.specs.Top.{IsLate};
+ghost use Rattle.superpin_top.specs.Causes.{HasCause};
+ghost use Rattle.superpin_top.specs.Engine.{frames_by};
+ghost use Rattle.superpin_top.specs.Top.{IsLate, RunTells};
 
 use crate::engine::run_guest;
 use cache_tool::DirectCache;
@@ -44,16 +40,12 @@ fn run_with<T: Tool, H: Host + Send, P: Pacer + Send, G: Gate + Sync, R: Threads
     requires frames { guest.frames ≡ free_frames (frames_by how.by how.limits.frames) }
     requires by { how.by ≡ By.Windows }
     requires workers { (1 ≤ workers) × (workers ≤ 16) }
-    ensures told { (w : World) (strings : List (List ℕ))
-        → (H.told host.old).input ≡ Some w.input → (H.told host.old).moments ≡ Some w.moments
-        → guest.machine ≡ machine_of image.now strings →
-        AttemptGives (H.told host.old) (Ok (Runs (program_by image.now strings
+    ensures told { RunTells image.now guest.machine
         (with_calls (views_of image.now) T.GROWS (T.calls_of tool.now)
-        (λ xs. T.text_of tool.now (views_of image.now) (T.value tool.now xs))) how)))
-        w (shows (P.period_shown pacer.old) (P.tally pacer.old) (P.answers pacer.old)) result (H.told host.new)
+        (λ xs. T.text_of tool.now (views_of image.now) (T.value tool.now xs))) how (H.told host.old)
+        (shows (P.period_shown pacer.old) (P.tally pacer.old) (P.answers pacer.old)) result (H.told host.new)
         (shows (P.period_shown pacer.new) (P.tally pacer.new) (P.answers pacer.new)) }
-    ensures faults { MatchResult result (λ _. H.faults host.new ≡ H.faults host.old)
-        (λ e. CausedBy e (H.faults host.old) (H.faults host.new)) }
+    ensures faults { HasCause (H.faults host.old) (H.faults host.new) result }
     ensures late { IfErr result IsLate }
 {
     let Ok(planned) = plan_run(alloc, image, tool) else {
@@ -83,15 +75,10 @@ pub(crate) fn run_loaded<H: Host + Send, P: Pacer + Send, G: Gate + Sync, R: Thr
     requires by { how.by ≡ By.Windows }
     requires workers { (1 ≤ workers) × (workers ≤ 16) }
     requires sizes { has_sizes tool ≡ true }
-    ensures told { (w : World) (strings : List (List ℕ))
-        → (H.told host.old).input ≡ Some w.input → (H.told host.old).moments ≡ Some w.moments
-        → guest.machine ≡ machine_of image.now strings →
-        AttemptGives (H.told host.old)
-        (Ok (Runs (program_by image.now strings (meaning_of image.now tool) how)))
-        w (shows (P.period_shown pacer.old) (P.tally pacer.old) (P.answers pacer.old)) result (H.told host.new)
+    ensures told { RunTells image.now guest.machine (meaning_of image.now tool) how (H.told host.old)
+        (shows (P.period_shown pacer.old) (P.tally pacer.old) (P.answers pacer.old)) result (H.told host.new)
         (shows (P.period_shown pacer.new) (P.tally pacer.new) (P.answers pacer.new)) }
-    ensures faults { MatchResult result (λ _. H.faults host.new ≡ H.faults host.old)
-        (λ e. CausedBy e (H.faults host.old) (H.faults host.new)) }
+    ensures faults { HasCause (H.faults host.old) (H.faults host.new) result }
     ensures late { IfErr result IsLate }
 {
     match tool {

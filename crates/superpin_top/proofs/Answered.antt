@@ -12,8 +12,8 @@ use Rattle.sp_report.specs.declared.answer.Refusal.{Refusal}
 use Rattle.sp_report.specs.declared.answer.Refusal.TheVariants.{NoMemory}
 use Rattle.sp_report.specs.declared.answer.UsageKind.{UsageKind}
 use Rattle.sp_words.specs.Asked.{Wanted}
-use Rattle.superpin_top.specs.Answered.{IsAnswered, IsAttempt}
-use Rattle.superpin_top.specs.Due.{OfTask, Task, due_task, not_sliced}
+use Rattle.superpin_top.specs.Answered.{ExitsAt, IsAnswered, IsAttempt, OutcomeAt}
+use Rattle.superpin_top.specs.Due.{Task, due_task, not_sliced}
 use Rattle.superpin_top.specs.Outcome.{AddsFront, AttemptGives, CanRise, IsCaused, IsDecided, IsDelivered, IsEarly, NoneRose, Outcome, TellsSlices, WritesLine, done_slicing}
 use Rattle.superpin_top.specs.declared.engine.Done.{Done}
 use Rattle.superpin_top.proofs.Causes.{refused_where, port_where, report_rose, guests_port}
@@ -84,6 +84,9 @@ module _ (wanted : Result Wanted UsageKind) (task_at : Files → Option (Result 
             (λ task refuses. (refused_follows t task w first refusal before middle after mid new now refuses is.faults writes).fronts.err) (is.told files w files_are input moments);
       }
 
--- a status that says an answer
-pub says_status : (o : Option (Result Task Refusal)) (P : Answer → Result Task Refusal → Type 0) (answer : Answer) (status : ℕ) → status ≡ exit_code_of answer → OfTask o (P answer) → OfTask o (λ task. (x : Answer) × (status ≡ exit_code_of x) × P x task)
-says_status o P answer status is holds = of_each o (P answer) (λ task. (x : Answer) × (status ≡ exit_code_of x) × P x task) (λ task p. (answer, is, p)) holds
+-- a status that says an answer with its outcome
+pub says_status : (task_at : Files → Option (Result Task Refusal)) (t : Told) (before : Faults) (first : PacerState) (answer : Answer) (code : ℕ) (new : Told) (after : Faults) (now : PacerState) → code ≡ exit_code_of answer
+    → OutcomeAt task_at t before first answer new after now → ExitsAt task_at t before first code new after now
+says_status task_at t before first answer code new after now is holds files w files_are input moments =
+    of_each (task_at files) (λ task. Outcome t task w first before answer new after now) (λ task. (x : Answer) × (code ≡ exit_code_of x) × Outcome t task w first before x new after now)
+    (λ task outcome. (answer, is, outcome)) (holds files w files_are input moments)

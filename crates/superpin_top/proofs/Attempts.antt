@@ -1,7 +1,7 @@
 -- Attempts at what words ask for.
 use Rattle.std.proofs.Common.{◌≡◌, ℕ, List, refl, ap, sym, subst, ◌∙◌, inl}
-use Rattle.std.specs.Prelude.{Option, Some, Result, Ok, Err, IfErr, MatchResult}
-use Rattle.sp_host.specs.Told.{Files, Told, WhereTold}
+use Rattle.std.specs.Prelude.{Option, Some, Result, Ok, Err, IfErr}
+use Rattle.sp_host.specs.Told.{Files, Told}
 use Rattle.sp_host.specs.Faults.{Faults}
 use Rattle.guest_model.specs.Call.{World}
 use Rattle.master_run.specs.Answers.{PacerState}
@@ -11,10 +11,10 @@ use Rattle.sp_report.specs.declared.answer.UsageKind.{UsageKind}
 use Rattle.sp_words.specs.Asked.{Answers, Wanted, words_wanted}
 use Rattle.sp_words.specs.declared.asked.WordFault.{WordFault}
 use Rattle.sp_words.specs.declared.asked.WordFault.TheVariants as words
-use Rattle.superpin_top.specs.Answered.{IsAttempt}
-use Rattle.superpin_top.specs.Causes.{CausedBy, refusal_of_words}
+use Rattle.superpin_top.specs.Answered.{IsAttempt, IsTried}
+use Rattle.superpin_top.specs.Causes.{refusal_of_words}
 use Rattle.superpin_top.specs.Due.{OfTask, Task, task_in, task_of, task_of_wanted}
-use Rattle.superpin_top.specs.Outcome.{AttemptGives, IsDecided, Refuses, WhereTask}
+use Rattle.superpin_top.specs.Outcome.{AttemptGives, IsDecided, Refuses}
 use Rattle.superpin_top.specs.Top.{IsPastWords}
 use Rattle.superpin_top.specs.declared.engine.Done.{Done}
 use Rattle.superpin_top.proofs.Causes.{words_caused}
@@ -33,18 +33,15 @@ of_err P r holds refusal e = subst (λ (k : Result Done Refusal). IfErr k P) e h
 
 module _ (wanted : Result Wanted UsageKind) (task_at : Files → Option (Result Task Refusal)) (is_task : (files : Files) → task_at files ≡ task_of_wanted wanted files) (t : Told) (before : Faults) (first : PacerState) where
   -- what the words ask for was tried
-  pub asked_attempted : (asked : Wanted) (attempt : Result Done Refusal) (mid : Told) (middle : Faults) (now : PacerState) → wanted ≡ Ok asked
-      → WhereTold t.files (λ files. OfTask (task_in files asked) (λ task. IsDecided task attempt))
-      → WhereTask t (λ files. task_in files asked) (λ task w. AttemptGives t task w first attempt mid now)
-      → MatchResult attempt (λ _. middle ≡ before) (λ e. CausedBy e before middle) → IfErr attempt IsPastWords
+  pub asked_attempted : (asked : Wanted) (attempt : Result Done Refusal) (mid : Told) (middle : Faults) (now : PacerState) → wanted ≡ Ok asked → IsTried asked t before first attempt mid middle now
       → IsAttempt wanted task_at t before first attempt mid middle now
-  asked_attempted asked attempt mid middle now is early told faults past =
+  asked_attempted asked attempt mid middle now is tried =
       let at : (files : Files) → task_in files asked ≡ task_at files = λ files. sym (is_task files ∙ ap (λ (w : Result Wanted UsageKind). task_of_wanted w files) is) in
       record {
-        words = read_words_pass wanted asked attempt is (of_err IsPastWords attempt past);
-        early = λ files files_are. subst (λ (o : Option (Result Task Refusal)). OfTask o (λ task. IsDecided task attempt)) (at files) (early files files_are);
-        told = λ files w files_are input moments. subst (λ (o : Option (Result Task Refusal)). OfTask o (λ task. AttemptGives t task w first attempt mid now)) (at files) (told files w files_are input moments);
-        faults = faults;
+        words = read_words_pass wanted asked attempt is (of_err IsPastWords attempt tried.past);
+        early = λ files files_are. subst (λ (o : Option (Result Task Refusal)). OfTask o (λ task. IsDecided task attempt)) (at files) (tried.early files files_are);
+        told = λ files w files_are input moments. subst (λ (o : Option (Result Task Refusal)). OfTask o (λ task. AttemptGives t task w first attempt mid now)) (at files) (tried.told files w files_are input moments);
+        faults = tried.faults;
       }
 
   -- words that ask for nothing

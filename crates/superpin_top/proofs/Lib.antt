@@ -8,3 +8,4 @@ pub mod Engines
 pub mod Demos
 pub mod Answered
 pub mod Attempts
+pub mod Runs

@@ -4,7 +4,6 @@ use Rattle.std.specs.Prelude.{Option, Some, Ok, Err, Result}
 use Rattle.sp_host.specs.Told.{Told, appended, sent as sent_to, PartSent}
 use Rattle.sp_host.specs.declared.host.Port.TheVariants.{Out, Report}
 use Rattle.sp_host.proofs.Told.{appended-nil, appended-more}
-use Rattle.elf_load.specs.Image.{ImageFields}
 use Rattle.guest_model.specs.Call.{World}
 use Rattle.guest_model.specs.Machine.{Machine}
 use Rattle.guest_model.specs.Runs.{RunState, Running, Ended as RunEnded}
@@ -26,16 +25,13 @@ use Rattle.serial_run.specs.Run.{EndsAt, RunLacks}
 use Rattle.sliced_run.specs.Sliced.{SlicedFail}
 use Rattle.sp_words.specs.Due.{Due, Program, delivered, due_refused, due_run, due_state, report_of, run_of_program}
 use Rattle.sp_words.specs.Run.{IsSlicedBy, Run, Slicing, slicing_of, steps_of}
-use Rattle.sp_words.specs.Tools.{meaning_of}
 use Rattle.sp_words.specs.declared.asked.By.{By}
 use Rattle.sp_words.specs.declared.asked.By.TheVariants.{Serial, Windows}
-use Rattle.sp_words.specs.declared.asked.ToolName.{ToolName}
 use Rattle.superpin_top.specs.Causes.{refusal_of_run}
 use Rattle.superpin_top.specs.Due.{Task, Runs, due_shown, not_sliced}
-use Rattle.superpin_top.specs.Engine.{EngineFails, WantsWithin, program_by, run_from}
+use Rattle.superpin_top.specs.Engine.{EngineFails, WantsWithin, run_from}
 use Rattle.superpin_top.specs.Outcome.{IsDue, OfText, Refuses, AttemptGives, done_slicing}
 use Rattle.superpin_top.specs.declared.engine.Done.{Done}
-use Rattle.superpin_top.specs.declared.engine.How.{How}
 
 -- where the input and the moments are told, a run begins here
 pub at_begin : (t : Told) (w : World) → t.input ≡ Some w.input → t.moments ≡ Some w.moments → t ≡ told_after t w []
@@ -232,7 +228,3 @@ shown t new task text w pacer of input moments wrote =
 
 pub not_shown : (t new : Told) (task : Result Task Refusal) (text : List ℕ) (w : World) (pacer : PacerState) → OfText task (λ due. text ≡ due) → PartSent Out text t new → Refuses t task w pacer (refusals.OutputFault Out) new pacer
 not_shown t new task text w pacer of wrote = inr (of.0, of.1, (refl, subst (λ (xs : List ℕ). PartSent Out xs t new) of.2 wrote))
-
--- what comes of a program that was loaded, by the name of its tool
-abbrev pub NamedGives : Told → ImageFields → List (List ℕ) → How → World → PacerState → Result Done Refusal → Told → PacerState → ToolName → Type 0
-NamedGives t image strings how w first r new now tool = AttemptGives t (Ok (Runs (program_by image strings (meaning_of image tool) how))) w first r new now

@@ -1,5 +1,5 @@
 -- The cause of each refusal.
-use Rattle.std.specs.Prelude.{◌≢◌, Bool, true, false, Option, None, Some}
+use Rattle.std.specs.Prelude.{◌≡◌, ◌≢◌, Bool, true, false, Option, None, Some, Result, MatchResult}
 use Rattle.sp_host.specs.Faults.{File, Input, To, Source, Faults, Caused}
 use Rattle.sp_host.specs.declared.host.Port.TheVariants.{Report}
 use Rattle.sp_host.specs.declared.whole.ReadFault.{ReadFault}
@@ -50,6 +50,10 @@ IsOfGuest refusal = Unit {0}
 
 abbrev pub CausedBy : Refusal → Faults → Faults → Type 0
 CausedBy refusal before now = Caused (cause_of refusal) before now × IsOfGuest refusal
+
+-- no count rose, or that of the cause of the refusal
+abbrev pub HasCause : {X : Type 0} → Faults → Faults → Result X Refusal → Type 0
+HasCause before now result = MatchResult result (λ _. now ≡ before) (λ e. CausedBy e before now)
 
 -- the refusals that the words and the file alone decide
 abbrev pub is_early : Refusal → Bool

@@ -1,5 +1,5 @@
 -- What the engine of a run answers, serial or by windows, and what it does to what a host tells and to what a pacer shows.
-use Rattle.std.specs.Prelude.{◌≡◌, ℕ, List, Result, Ok, Err}
+use Rattle.std.specs.Prelude.{◌≡◌, ℕ, Bool, List, [], Result, Ok, Err}
 use Rattle.sp_host.specs.Told.{Told}
 use Rattle.elf_load.specs.Image.{ImageFields}
 use Rattle.guest_model.specs.Call.{World}
@@ -18,6 +18,7 @@ use Rattle.sp_words.specs.Run.{IsSlicedBy, Run, Slicing, ToolMeaning, slicing_of
 use Rattle.sp_words.specs.declared.asked.By.{By}
 use Rattle.sp_words.specs.declared.asked.By.TheVariants.{Serial, Windows}
 use Rattle.superpin_top.specs.declared.engine.How.{How}
+use Rattle.syscall_layer.specs.Serve.{told_after}
 use Rattle.syscall_layer.specs.declared.fault.RunFault.{RunFault}
 use Rattle.sliced_run.specs.Sliced.{StandsBetween, SlicedFail}
 
@@ -64,3 +65,8 @@ pub record EngineEnds {T L S : Type 0} (is_value : List TraceItem → S → Type
 abbrev pub EngineGives : {T L S : Type 0} → (List TraceItem → S → Type 0) → Told → Run → PacerState → Result (Finished T L S) RunFault → Told → PacerState → Type 0
 EngineGives is_value t r first (Ok f) new now = EngineEnds is_value t r first f new now
 EngineGives is_value t r first (Err fault) new now = EngineFails r.by r t fault new
+
+-- what an engine answers of a guest whose machine stands so, whatever the tool's text is, and whatever is left
+abbrev pub EngineTells : {T L S : Type 0} → (List TraceItem → S → Type 0) → Bool → Machine → How → Told → PacerState → Result (Finished T L S) RunFault → Told → PacerState → Type 0
+EngineTells is_value grows m how old first result new now = (text : List TraceItem → List ℕ) (t : Told) (w : World) → old ≡ told_after t w [] →
+    EngineGives is_value t (run_from m (record { text = text; grows = grows }) (engine_by how) w) first result new now

@@ -23,7 +23,7 @@ use Rattle.sp_words.specs.Run.{IsSlicedBy, Run, Slicing, steps_of}
 use Rattle.demo_run.specs.Demo.{DemoGives, IsDemoText}
 use Rattle.prog_gen.specs.Demo.{demo_headers, demo_instrs}
 use Rattle.prog_gen.specs.File.{Adds}
-use Rattle.superpin_top.specs.Due.{OfTask, Task, Runs, Shows, due_task, not_sliced, slicing_in, task_of}
+use Rattle.superpin_top.specs.Due.{OfTask, Task, Runs, Shows, due_task, not_sliced, slicing_in}
 use Rattle.superpin_top.specs.Engine.{WantsWithin}
 use Rattle.superpin_top.specs.Causes.{CausedBy, is_early, is_of_run}
 use Rattle.superpin_top.specs.declared.engine.Done.{Done}
@@ -35,9 +35,6 @@ WhereAllTold t P = (files : Files) (w : World) → t.files ≡ Some files → t.
 -- the same, and of what is asked for where that is no demonstration
 abbrev pub WhereTask : Told → (Files → Option (Result Task Refusal)) → (Result Task Refusal → World → Type 0) → Type 0
 WhereTask t task_at P = WhereAllTold t (λ files w. OfTask (task_at files) (λ task. P task w))
-
-abbrev pub WhereDue : Told → List (List ℕ) → (Result Task Refusal → World → Type 0) → Type 0
-WhereDue t words P = WhereTask t (task_of words) P
 
 -- the due answer is this one, and its bytes but for the report were written
 pub record IsDue (t : Told) (d : Due) (answer : Answer) (new : Told) : Type 0 where

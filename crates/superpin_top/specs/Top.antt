@@ -1,9 +1,13 @@
 -- What the parts of the top call answer.
 use Rattle.std.specs.Prelude.{◌≡◌, ◌⊎◌, ◌<◌, ◌≤◌, List, [], ℕ, length, None, Some, Result, Ok, Err, Vec}
 use Rattle.std.specs.declared.alloc.Global.{Global}
+use Rattle.sp_host.specs.Told.{Told}
 use Rattle.sp_host.specs.Whole.{most_file}
 use Rattle.elf_load.specs.Elf.{refusal_of, image_of}
 use Rattle.elf_load.specs.Image.{ImageFields}
+use Rattle.guest_model.specs.Call.{World}
+use Rattle.guest_model.specs.Machine.{Machine}
+use Rattle.master_run.specs.Answers.{PacerState}
 use Rattle.rv_machine.specs.Load.{machine_of}
 use Rattle.sp_report.specs.declared.answer.Answer.{Answer}
 use Rattle.sp_report.specs.declared.answer.Answer.TheVariants.{Ended, Refused}
@@ -11,11 +15,13 @@ use Rattle.sp_report.specs.declared.answer.Refusal.{Refusal}
 use Rattle.sp_report.specs.declared.answer.Refusal.TheVariants as refusals
 use Rattle.sp_report.specs.declared.answer.UsageKind.{UsageKind}
 use Rattle.sp_words.specs.Asked.{RunWanted, Wanted}
+use Rattle.sp_words.specs.Run.{ToolMeaning}
 use Rattle.sp_words.specs.Tools.{meaning_of}
 use Rattle.superpin_top.specs.Due.{Task, Runs, program_of, strings_of}
 use Rattle.superpin_top.specs.Engine.{program_by}
-use Rattle.superpin_top.specs.Outcome.{OfText}
+use Rattle.superpin_top.specs.Outcome.{AttemptGives, OfText}
 use Rattle.superpin_top.specs.declared.engine.Done.{Done}
+use Rattle.superpin_top.specs.declared.engine.How.{How}
 use Rattle.superpin_top.specs.declared.load.Loaded.{Loaded}
 use Rattle.superpin_top.specs.declared.load.LoadedRun.{LoadedRun}
 
@@ -57,6 +63,12 @@ pub record IsLoadedFor (task : Result Task Refusal) (loaded : LoadedRun) : Type 
 abbrev pub RunLoads : Result Task Refusal → Result LoadedRun Refusal → Type 0
 RunLoads task (Ok loaded) = IsLoadedFor task loaded
 RunLoads task (Err refusal) = IsBefore task refusal
+
+-- what comes of the run of an image whose machine stands so, with a tool that means this, whatever strings its program got, and
+-- whatever is left
+abbrev pub RunTells : ImageFields → Machine → ToolMeaning → How → Told → PacerState → Result Done Refusal → Told → PacerState → Type 0
+RunTells image m tool how t first result new now = (w : World) (strings : List (List ℕ)) → t.input ≡ Some w.input → t.moments ≡ Some w.moments → m ≡ machine_of image strings →
+    AttemptGives t (Ok (Runs (program_by image strings tool how))) w first result new now
 
 -- the text that is to be shown, or the refusal before it is written
 abbrev pub TextGives : Result Task Refusal → Result (Vec ℕ Global) Refusal → Type 0

@@ -1,11 +1,11 @@
 // From an attempt at what words ask for to its answer.
-ghost use Rattle.std.specs.Prelude.{◌≡◌, [], ℕ, IfOk, MatchResult, Option, Result};
+ghost use Rattle.std.specs.Prelude.{◌≡◌, [], ℕ, IfOk, Option, Result};
 ghost use Rattle.sp_host.specs.Faults.{Faults};
 ghost use Rattle.sp_host.specs.Told.{Files, Told};
 ghost use Rattle.master_run.specs.Answers.{PacerState};
 ghost use Rattle.sp_words.specs.Asked.{Wanted};
 ghost use Rattle.superpin_top.specs.Answered.{IsAnswered, IsAttempt};
-ghost use Rattle.superpin_top.specs.Causes.{CausedBy};
+ghost use Rattle.superpin_top.specs.Causes.{HasCause};
 ghost use Rattle.superpin_top.specs.Due.{Task};
 ghost use Rattle.superpin_top.specs.Outcome.{DemoOutcome, DemoTells, WritesLine};
 ghost use Rattle.superpin_top.specs.Top.{cuts_in};
@@ -33,7 +33,7 @@ pub fn answer_attempt<H: Host>(host: &mut H, attempt: Result<Done, Refusal>) -> 
         → IsAttempt wanted task_at t before first attempt (H.told host.old) (H.faults host.old) now
         → IsAnswered wanted task_at t before first result (H.told host.new) (H.faults host.new) now }
     ensures demo { (n : ℕ) (t : Told) (before : Faults) → DemoTells n t attempt (H.told host.old)
-        → MatchResult attempt (λ _. H.faults host.old ≡ before) (λ e. CausedBy e before (H.faults host.old))
+        → HasCause before (H.faults host.old) attempt
         → DemoOutcome n t before result (H.told host.new) (H.faults host.new) }
     ensures uncut { IfOk attempt (λ done. done.cuts ≡ []) → cuts_in result ≡ [] }
 {

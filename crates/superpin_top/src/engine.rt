@@ -1,17 +1,13 @@
 // The engines: one instrumented run, or windows of slices beside a run without the tool.
-ghost use Rattle.std.specs.Prelude.{◌≡◌, ◌<◌, ◌^◌, ℕ, List, [], IfErr, IfOk};
+ghost use Rattle.std.specs.Prelude.{◌≡◌, ◌<◌, ◌^◌, ℕ, [], IfErr, IfOk};
 ghost use Rattle.sp_host.specs.Faults.{CausedIn};
-ghost use Rattle.sp_host.specs.Told.{Told};
 ghost use Rattle.guest_mem.specs.Frames.{free_frames};
-ghost use Rattle.guest_model.specs.Call.{World};
-ghost use Rattle.guest_model.specs.Serial.{TraceItem};
 ghost use Rattle.insert_points.specs.Plan.{called_at};
-ghost use Rattle.syscall_layer.specs.Serve.{told_after};
 ghost use Rattle.syscall_layer.specs.Step.{IsOfGuest, run_source_of};
 ghost use Rattle.tool_law.specs.Events.{trace_events};
 ghost use Rattle.tool_law.specs.Planning.{called_of};
 ghost use Rattle.sliced_run.specs.Sliced.{shows};
-ghost use Rattle.superpin_top.specs.Engine.{EngineGives, engine_by, frames_by, run_from};
+ghost use Rattle.superpin_top.specs.Engine.{EngineTells, frames_by};
 
 use guest_model::platform::MOST_PAGES;
 use ins_views::Views;
@@ -73,12 +69,10 @@ pub(crate) fn run_guest<T: Tool, H: Host + Send, P: Pacer + Send, R: Threads + S
     requires plan { (a : ℕ) → a < 2 ^ 32
         → called_at plan.now a ≡ called_of (T.calls_of tool.now) views.now a }
     requires frames { guest.frames ≡ free_frames (frames_by how.by how.limits.frames) }
-    ensures told { (text : List TraceItem → List ℕ) (t : Told) (w : World) → H.told host.old ≡ told_after t w [] →
-        EngineGives (λ items s. T.is_value tool.now
-        (trace_events (T.calls_of tool.now) views.now items) s) t
-        (run_from guest.machine (record { text = text; grows = T.GROWS }) (engine_by how) w)
-        (shows (P.period_shown pacer.old) (P.tally pacer.old) (P.answers pacer.old))
-        result (H.told host.new)
+    ensures told { EngineTells
+        (λ items s. T.is_value tool.now (trace_events (T.calls_of tool.now) views.now items) s)
+        T.GROWS guest.machine how (H.told host.old)
+        (shows (P.period_shown pacer.old) (P.tally pacer.old) (P.answers pacer.old)) result (H.told host.new)
         (shows (P.period_shown pacer.new) (P.tally pacer.new) (P.answers pacer.new)) }
     ensures serial { how.by ≡ By.Serial → pacer.new ≡ pacer.old }
     ensures uncut { how.by ≡ By.Serial → IfOk result (λ finished. finished.cuts.items ≡ []) }

@@ -1,8 +1,8 @@
 // The file that is asked for.
-ghost use Rattle.std.specs.Prelude.{◌≡◌, ◌≤◌, None, IfErr, IfOk, MatchResult, length};
+ghost use Rattle.std.specs.Prelude.{◌≡◌, ◌≤◌, None, IfErr, IfOk, length};
 ghost use Rattle.sp_host.specs.Told.{WhereTold, file_of};
 ghost use Rattle.sp_host.specs.Whole.{most_file};
-ghost use Rattle.superpin_top.specs.Causes.{CausedBy, cause_of, refusal_of_read};
+ghost use Rattle.superpin_top.specs.Causes.{HasCause, cause_of, refusal_of_read};
 ghost use Rattle.superpin_top.specs.Top.{ImageGives, IsPastWords, ReadGives};
 
 use elf_load::{ElfFault, Image, load};
@@ -31,8 +31,7 @@ pub(crate) fn read_program<H: Host>(
     ensures size { IfOk result (λ bytes. length bytes.items ≤ most_file) }
     ensures bytes { WhereTold (H.told host.old).files
         (λ files. ReadGives (file_of files name.now) result) }
-    ensures faults { MatchResult result (λ _. H.faults host.new ≡ H.faults host.old)
-        (λ e. CausedBy e (H.faults host.old) (H.faults host.new)) }
+    ensures faults { HasCause (H.faults host.old) (H.faults host.new) result }
     ensures past { IfErr result IsPastWords }
 {
     match read_whole(alloc, host, name) {

@@ -1,11 +1,11 @@
 // From the run that words ask for to the program that is to run.
-ghost use Rattle.std.specs.Prelude.{◌≡◌, ◌<◌, ◌≤◌, IfErr, IfOk, MatchResult, None, length, true};
+ghost use Rattle.std.specs.Prelude.{◌≡◌, ◌<◌, ◌≤◌, IfErr, IfOk, None, length, true};
 ghost use Rattle.sp_host.specs.Told.{WhereTold, file_of};
 ghost use Rattle.sp_host.specs.Whole.{most_file};
 ghost use Rattle.guest_mem.specs.Frames.{free_frames};
 ghost use Rattle.sp_words.specs.Asked.{RunWanted, run_of_asked};
 ghost use Rattle.sp_words.specs.Sizes.{has_sizes};
-ghost use Rattle.superpin_top.specs.Causes.{CausedBy, cause_of};
+ghost use Rattle.superpin_top.specs.Causes.{HasCause, cause_of};
 ghost use Rattle.superpin_top.specs.Due.{run_task, strings_of, texts};
 ghost use Rattle.superpin_top.specs.Engine.{frames_by};
 ghost use Rattle.superpin_top.specs.Top.{IsPastWords, LoadGives, RunLoads};
@@ -68,8 +68,7 @@ fn ready<H: Host>(
     ensures loaded { (r : RunWanted) → strings_of r ≡ texts strings.now
         → WhereTold (H.told host.old).files (λ files. LoadGives (run_task (file_of files r.file) r) r result) }
     ensures frames { IfOk result (λ loaded. loaded.guest.frames ≡ free_frames frames) }
-    ensures faults { MatchResult result (λ _. H.faults host.new ≡ H.faults host.old)
-        (λ e. CausedBy e (H.faults host.old) (H.faults host.new)) }
+    ensures faults { HasCause (H.faults host.old) (H.faults host.new) result }
     ensures past { IfErr result IsPastWords }
 {
     let file = match read_program(alloc, host, strings[0].as_str()) {
@@ -91,8 +90,7 @@ pub fn load_run<H: Host>(alloc: Global, run: RunAsked, host: &mut H) -> Result<L
     ensures frames { IfOk result (λ loaded. loaded.guest.frames
         ≡ free_frames (frames_by loaded.how.by loaded.how.limits.frames)) }
     ensures sizes { IfOk result (λ loaded. has_sizes loaded.tool ≡ true) }
-    ensures faults { MatchResult result (λ _. H.faults host.new ≡ H.faults host.old)
-        (λ e. CausedBy e (H.faults host.old) (H.faults host.new)) }
+    ensures faults { HasCause (H.faults host.old) (H.faults host.new) result }
     ensures past { IfErr result IsPastWords }
 {
     let how = How {

@@ -4,8 +4,9 @@ ghost use Rattle.sp_report.specs.Answer.{exit_code_of};
 ghost use Rattle.sp_report.specs.declared.answer.Answer.{Answer};
 ghost use Rattle.sliced_run.specs.Sliced.{shows};
 ghost use Rattle.sp_words.specs.Asked.{words_wanted};
-ghost use Rattle.superpin_top.specs.Due.{demo_wanted, texts};
-ghost use Rattle.superpin_top.specs.Outcome.{DemoOutcome, Outcome, WhereDue, WritesLine};
+ghost use Rattle.superpin_top.specs.Answered.{ExitsAt, ExitsUnread};
+ghost use Rattle.superpin_top.specs.Due.{demo_wanted, task_of, texts};
+ghost use Rattle.superpin_top.specs.Outcome.{DemoOutcome};
 
 use crate::answer::refuse;
 use crate::top::superpin;
@@ -26,17 +27,15 @@ pub fn answer_words<H: Host + Send, P: Pacer + Send, R: Threads + Sync>(
     host: &mut H,
     pacer: &mut P,
 ) -> u8
-    ensures read { IfOk words (λ words. WhereDue (H.told host.old) (texts words.items) (λ task w.
-        (answer : Answer) × (result ≡ exit_code_of answer) ×
-        Outcome (H.told host.old) task w
+    ensures read { IfOk words (λ words. ExitsAt (task_of (texts words.items)) (H.told host.old) (H.faults host.old)
         (shows (P.period_shown pacer.old) (P.tally pacer.old) (P.answers pacer.old))
-        (H.faults host.old) answer (H.told host.new) (H.faults host.new)
-        (shows (P.period_shown pacer.new) (P.tally pacer.new) (P.answers pacer.new)))) }
+        result (H.told host.new) (H.faults host.new)
+        (shows (P.period_shown pacer.new) (P.tally pacer.new) (P.answers pacer.new))) }
     ensures demo { IfOk words (λ words. (n : ℕ) → demo_wanted (words_wanted (texts words.items)) ≡ Some n →
         (answer : Answer) × (result ≡ exit_code_of answer) ×
         DemoOutcome n (H.told host.old) (H.faults host.old) answer (H.told host.new) (H.faults host.new)) }
-    ensures unread { IfErr words (λ refusal. (result ≡ 125) ×
-        WritesLine refusal (H.told host.old) (H.told host.new) (H.faults host.old) (H.faults host.new)) }
+    ensures unread { IfErr words (λ refusal. ExitsUnread refusal result (H.told host.old) (H.told host.new)
+        (H.faults host.old) (H.faults host.new)) }
 {
     match words {
         Ok(words) => {
@@ -49,8 +48,7 @@ pub fn answer_words<H: Host + Send, P: Pacer + Send, R: Threads + Sync>(
 
 /// Says why words could not be read, and gives the exit status.
 pub fn refuse_words<H: Host>(host: &mut H, refusal: Refusal) -> u8
-    ensures { (result ≡ 125) ×
-        WritesLine refusal (H.told host.old) (H.told host.new) (H.faults host.old) (H.faults host.new) }
+    ensures { ExitsUnread refusal result (H.told host.old) (H.told host.new) (H.faults host.old) (H.faults host.new) }
 {
     refuse(host, &refusal);
     exit_code(&Answer::Refused(refusal))

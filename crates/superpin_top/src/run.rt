@@ -1,5 +1,5 @@
 // A program's run with a tool, and its report.
-ghost use Rattle.std.specs.Prelude.{◌≡◌, ◌<◌, ◌^◌, List, [], ℕ, IfErr, IfOk, MatchResult, Ok, Some, true};
+ghost use Rattle.std.specs.Prelude.{◌≡◌, ◌<◌, ◌^◌, List, [], ℕ, IfErr, IfOk, Ok, Some, true};
 ghost use Rattle.sp_host.specs.Faults.{CausedIn, Faults};
 ghost use Rattle.sp_host.specs.Told.{Told};
 ghost use Rattle.elf_load.specs.Image.{ImageFields};
@@ -8,7 +8,6 @@ ghost use Rattle.guest_model.specs.Call.{World};
 ghost use Rattle.ins_views.specs.Views.{views_of};
 ghost use Rattle.insert_points.specs.Plan.{called_at};
 ghost use Rattle.master_run.specs.Answers.{PacerState};
-ghost use Rattle.rv_machine.specs.Load.{machine_of};
 ghost use Rattle.sp_words.specs.Due.{run_of_program};
 ghost use Rattle.sp_words.specs.Sizes.{has_sizes};
 ghost use Rattle.sp_words.specs.Tools.{meaning_of, with_calls};
@@ -16,11 +15,11 @@ ghost use Rattle.sliced_run.specs.Sliced.{shows};
 ghost use Rattle.syscall_layer.specs.Step.{IsOfGuest, run_source_of};
 ghost use Rattle.tool_law.specs.Events.{trace_events};
 ghost use Rattle.tool_law.specs.Planning.{called_of};
-ghost use Rattle.superpin_top.specs.Causes.{CausedBy, refusal_of_run};
+ghost use Rattle.superpin_top.specs.Causes.{HasCause, refusal_of_run};
 ghost use Rattle.superpin_top.specs.Due.{Runs};
-ghost use Rattle.superpin_top.specs.Engine.{EngineGives, engine_by, frames_by, program_by};
+ghost use Rattle.superpin_top.specs.Engine.{EngineGives, frames_by, program_by};
 ghost use Rattle.superpin_top.specs.Outcome.{AttemptGives};
-ghost use Rattle.superpin_top.specs.Top.{IsLate};
+ghost use Rattle.superpin_top.specs.Top.{IsLate, RunTells};
 
 use crate::engine::{Done, How, run_guest};
 use crate::report::report;
@@ -92,8 +91,7 @@ pub fn finish<T: Tool, H: Host>(
         t (run_of_program p w) first run (H.told host.old) now
         → AttemptGives t (Ok (Runs p)) w first result (H.told host.new) now }
     ensures faults { (before : Faults) → CausedIn run_source_of before (H.faults host.old) run → IfErr run IsOfGuest →
-        MatchResult result (λ _. H.faults host.new ≡ before)
-        (λ e. CausedBy e before (H.faults host.new)) }
+        HasCause before (H.faults host.new) result }
     ensures late { IfErr result IsLate }
     ensures uncut { IfOk run (λ finished. finished.cuts.items ≡ []) → IfOk result (λ done. done.cuts ≡ []) }
 {
@@ -126,16 +124,12 @@ fn run_with<T: Tool, H: Host + Send, P: Pacer + Send, R: Threads + Sync>(
     tool: &T,
 ) -> Result<Done, Refusal>
     requires frames { guest.frames ≡ free_frames (frames_by how.by how.limits.frames) }
-    ensures told { (w : World) (strings : List (List ℕ))
-        → (H.told host.old).input ≡ Some w.input → (H.told host.old).moments ≡ Some w.moments
-        → guest.machine ≡ machine_of image.now strings →
-        AttemptGives (H.told host.old) (Ok (Runs (program_by image.now strings
+    ensures told { RunTells image.now guest.machine
         (with_calls (views_of image.now) T.GROWS (T.calls_of tool.now)
-        (λ xs. T.text_of tool.now (views_of image.now) (T.value tool.now xs))) how)))
-        w (shows (P.period_shown pacer.old) (P.tally pacer.old) (P.answers pacer.old)) result (H.told host.new)
+        (λ xs. T.text_of tool.now (views_of image.now) (T.value tool.now xs))) how (H.told host.old)
+        (shows (P.period_shown pacer.old) (P.tally pacer.old) (P.answers pacer.old)) result (H.told host.new)
         (shows (P.period_shown pacer.new) (P.tally pacer.new) (P.answers pacer.new)) }
-    ensures faults { MatchResult result (λ _. H.faults host.new ≡ H.faults host.old)
-        (λ e. CausedBy e (H.faults host.old) (H.faults host.new)) }
+    ensures faults { HasCause (H.faults host.old) (H.faults host.new) result }
     ensures late { IfErr result IsLate }
     ensures serial { how.by ≡ By.Serial → pacer.new ≡ pacer.old }
     ensures uncut { how.by ≡ By.Serial → IfOk result (λ done. done.cuts ≡ []) }
@@ -161,15 +155,10 @@ pub(crate) fn run_loaded<H: Host + Send, P: Pacer + Send, R: Threads + Sync>(
 ) -> Result<Done, Refusal>
     requires frames { guest.frames ≡ free_frames (frames_by how.by how.limits.frames) }
     requires sizes { has_sizes tool ≡ true }
-    ensures told { (w : World) (strings : List (List ℕ))
-        → (H.told host.old).input ≡ Some w.input → (H.told host.old).moments ≡ Some w.moments
-        → guest.machine ≡ machine_of image.now strings →
-        AttemptGives (H.told host.old)
-        (Ok (Runs (program_by image.now strings (meaning_of image.now tool) how)))
-        w (shows (P.period_shown pacer.old) (P.tally pacer.old) (P.answers pacer.old)) result (H.told host.new)
+    ensures told { RunTells image.now guest.machine (meaning_of image.now tool) how (H.told host.old)
+        (shows (P.period_shown pacer.old) (P.tally pacer.old) (P.answers pacer.old)) result (H.told host.new)
         (shows (P.period_shown pacer.new) (P.tally pacer.new) (P.answers pacer.new)) }
-    ensures faults { MatchResult result (λ _. H.faults host.new ≡ H.faults host.old)
-        (λ e. CausedBy e (H.faults host.old) (H.faults host.new)) }
+    ensures faults { HasCause (H.faults host.old) (H.faults host.new) result }
     ensures late { IfErr result IsLate }
     ensures serial { how.by ≡ By.Serial → pacer.new ≡ pacer.old }
     ensures uncut { how.by ≡ By.Serial → IfOk result (λ done. done.cuts ≡ []) }

@@ -1,7 +1,6 @@
 // A text that is shown, and the demonstration.
-ghost use Rattle.std.specs.Prelude.{◌≡◌, [], List, IfErr, IfOk, MatchResult};
-ghost use Rattle.sp_host.specs.Told.{Told};
-ghost use Rattle.superpin_top.specs.Causes.{CausedBy};
+ghost use Rattle.std.specs.Prelude.{◌≡◌, [], IfErr, IfOk};
+ghost use Rattle.superpin_top.specs.Causes.{HasCause};
 ghost use Rattle.superpin_top.specs.Outcome.{DemoTells, ShowTells};
 ghost use Rattle.superpin_top.specs.Top.{IsPastWords};
 
@@ -15,8 +14,7 @@ use std::thread::Threads;
 /// Writes a text to the standard output.
 pub(crate) fn show<H: Host>(alloc: Global, text: &[u8], host: &mut H) -> Result<Done, Refusal>
     ensures told { ShowTells text.now (H.told host.old) result (H.told host.new) }
-    ensures faults { MatchResult result (λ _. H.faults host.new ≡ H.faults host.old)
-        (λ e. CausedBy e (H.faults host.old) (H.faults host.new)) }
+    ensures faults { HasCause (H.faults host.old) (H.faults host.new) result }
 {
     match write_whole(host, Port::Out, text) {
         Ok(()) => Ok(Done {
@@ -36,8 +34,7 @@ pub(crate) fn demo_asked<H: Host, R: Threads + Sync>(
     host: &mut H,
 ) -> Result<Done, Refusal>
     ensures told { DemoTells n (H.told host.old) result (H.told host.new) }
-    ensures faults { MatchResult result (λ _. H.faults host.new ≡ H.faults host.old)
-        (λ e. CausedBy e (H.faults host.old) (H.faults host.new)) }
+    ensures faults { HasCause (H.faults host.old) (H.faults host.new) result }
     ensures past { IfErr result IsPastWords }
     ensures uncut { IfOk result (λ done. done.cuts ≡ []) }
 {

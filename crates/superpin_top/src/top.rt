@@ -1,17 +1,13 @@
 // From the words to the answer.
-ghost use Rattle.std.specs.Prelude.{◌≡◌, ◌≢◌, ◌<◌, ◌↔◌, ◌^◌, ◌-◌, ℕ, []};
-ghost use Rattle.std.specs.Prelude.{Some, IfOk, IfErr, MatchResult};
-ghost use Rattle.sp_host.specs.Told.{WhereTold, file_of};
-ghost use Rattle.sp_host.specs.Faults.{To, count_of};
-ghost use Rattle.sp_words.specs.Asked.{run_of_asked, words_wanted};
+ghost use Rattle.std.specs.Prelude.{◌≡◌, ◌≢◌, ℕ, [], Some, IfOk};
+ghost use Rattle.sp_words.specs.Asked.{ToRun, run_of_asked, words_wanted};
 ghost use Rattle.sliced_run.specs.Sliced.{shows};
-ghost use Rattle.superpin_top.specs.Answered.{IsAttempt};
-ghost use Rattle.superpin_top.specs.Causes.{CausedBy};
-ghost use Rattle.superpin_top.specs.Due.{OfTask, by_wanted, demo_wanted, due_task, run_task, slicing_in, task_of, texts};
-ghost use Rattle.superpin_top.specs.Outcome.{WhereAllTold, WhereDue, AttemptGives, Outcome, DemoOutcome, DemoTells};
-ghost use Rattle.superpin_top.specs.Outcome.{CanRise, NoneRose, IsDelivered, IsDecided, IsEarly, IsCaused};
-ghost use Rattle.superpin_top.specs.Outcome.{AddsFront, IsEndedWhereNone, TellsSlices};
-ghost use Rattle.superpin_top.specs.Top.{IsOfWords, IsPastWords, cuts_in};
+ghost use Rattle.superpin_top.specs.Answered.{IsAttempt, IsTried};
+ghost use Rattle.superpin_top.specs.Answered.{TellsFileFault, TellsInputFault, TellsOutputFault, TellsReportFault, NamesGuestPort};
+ghost use Rattle.superpin_top.specs.Answered.{IsEarlyAt, OutcomeAt, IsDeliveredAt, TellsSlicesAt, IsCausedAt, AddsFrontAt, AddsErrorFrontAt};
+ghost use Rattle.superpin_top.specs.Due.{by_wanted, demo_wanted, task_of, texts};
+ghost use Rattle.superpin_top.specs.Outcome.{DemoOutcome, DemoTells, IsEndedWhereNone};
+ghost use Rattle.superpin_top.specs.Top.{IsOfWords, cuts_in};
 
 use crate::answer::answer_attempt;
 use crate::engine::Done;
@@ -20,7 +16,7 @@ use crate::run::run_loaded;
 use crate::show::demo_asked;
 use crate::view::view_asked;
 use crate::words::refusal_of_words;
-use sp_host::{Host, Pacer, Port};
+use sp_host::{Host, Pacer};
 use sp_report::{Answer, Refusal};
 use sp_words::{Asked, By, RunAsked, read_words};
 use std::alloc::Global;
@@ -34,15 +30,10 @@ fn run_asked<H: Host + Send, P: Pacer + Send, R: Threads + Sync>(
     host: &mut H,
     pacer: &mut P,
 ) -> Result<Done, Refusal>
-    ensures early { WhereTold (H.told host.old).files (λ files.
-        IsDecided (run_task (file_of files run.file) (run_of_asked run)) result) }
-    ensures told { WhereAllTold (H.told host.old) (λ files w. AttemptGives (H.told host.old)
-        (run_task (file_of files run.file) (run_of_asked run)) w
-        (shows (P.period_shown pacer.old) (P.tally pacer.old) (P.answers pacer.old)) result (H.told host.new)
-        (shows (P.period_shown pacer.new) (P.tally pacer.new) (P.answers pacer.new))) }
-    ensures faults { MatchResult result (λ _. H.faults host.new ≡ H.faults host.old)
-        (λ e. CausedBy e (H.faults host.old) (H.faults host.new)) }
-    ensures past { IfErr result IsPastWords }
+    ensures tried { IsTried (ToRun (run_of_asked run)) (H.told host.old) (H.faults host.old)
+        (shows (P.period_shown pacer.old) (P.tally pacer.old) (P.answers pacer.old))
+        result (H.told host.new) (H.faults host.new)
+        (shows (P.period_shown pacer.new) (P.tally pacer.new) (P.answers pacer.new)) }
     ensures serial { run.by ≡ By.Serial → pacer.new ≡ pacer.old }
     ensures uncut { run.by ≡ By.Serial → IfOk result (λ done. done.cuts ≡ []) }
 {
@@ -104,65 +95,41 @@ pub fn superpin<H: Host + Send, P: Pacer + Send, R: Threads + Sync>(
 ) -> Answer
     // The causes that show on every host.
     ensures words { IsOfWords (words_wanted (texts words.now)) result }
-    ensures file_fault { (H.faults host.old).file < 2 ^ 64 - 1 →
-        ((result ≡ Answer.Refused Refusal.FileFault) ↔
-        ((H.faults host.old).file < (H.faults host.new).file)) }
-    ensures input_fault { (H.faults host.old).input < 2 ^ 64 - 1 →
-        ((result ≡ Answer.Refused Refusal.InputFault) ↔
-        ((H.faults host.old).input < (H.faults host.new).input)) }
-    ensures output_fault { (port : Port) → port ≢ Port.Report →
-        count_of (To port) (H.faults host.old) < 2 ^ 64 - 1 →
-        ((result ≡ Answer.Refused (Refusal.OutputFault port)) ↔
-        (count_of (To port) (H.faults host.old) < count_of (To port) (H.faults host.new))) }
-    ensures report_fault { (H.faults host.old).report < 2 ^ 64 - 1 →
-        result ≡ Answer.Refused Refusal.ReportFault →
-        (H.faults host.old).report < (H.faults host.new).report }
+    ensures file_fault { TellsFileFault result (H.faults host.old) (H.faults host.new) }
+    ensures input_fault { TellsInputFault result (H.faults host.old) (H.faults host.new) }
+    ensures output_fault { TellsOutputFault result (H.faults host.old) (H.faults host.new) }
+    ensures report_fault { TellsReportFault result (H.faults host.old) (H.faults host.new) }
     ensures ended { IsEndedWhereNone result (H.faults host.old) (H.faults host.new) }
-    ensures other_port { (port : Port) → result ≡ Answer.Refused (Refusal.OutputFault port) →
-        port ≢ Port.Report }
+    ensures other_port { NamesGuestPort result }
     ensures pacer { by_wanted (words_wanted (texts words.now)) ≢ Some By.Windows → pacer.new ≡ pacer.old }
     ensures uncut { by_wanted (words_wanted (texts words.now)) ≢ Some By.Windows → cuts_in result ≡ [] }
 
     // Where the files are told: the refusals that the words and the file alone decide.
-    ensures early { WhereTold (H.told host.old).files
-        (λ files. (H.faults host.old).file < 2 ^ 64 - 1 →
-        (H.faults host.new).file ≡ (H.faults host.old).file →
-        result ≢ Answer.Refused Refusal.NoMemory →
-        OfTask (task_of (texts words.now) files) (λ task. IsEarly task result)) }
+    ensures early { IsEarlyAt (task_of (texts words.now)) (H.told host.old) (H.faults host.old)
+        result (H.faults host.new) }
 
     // Where the host tells: what is answered, and what stands where then, for each answer.
-    ensures outcome { WhereDue (H.told host.old) (texts words.now) (λ task w.
-        Outcome (H.told host.old) task w
+    ensures outcome { OutcomeAt (task_of (texts words.now)) (H.told host.old) (H.faults host.old)
         (shows (P.period_shown pacer.old) (P.tally pacer.old) (P.answers pacer.old))
-        (H.faults host.old) result (H.told host.new) (H.faults host.new)
-        (shows (P.period_shown pacer.new) (P.tally pacer.new) (P.answers pacer.new))) }
+        result (H.told host.new) (H.faults host.new)
+        (shows (P.period_shown pacer.new) (P.tally pacer.new) (P.answers pacer.new)) }
 
     // The headline: where no count rose, the answer is the due one with exactly the due bytes, or
     // want of memory. The cuts that it tells are those that the pacer's answers and the limits make
     // due, and its lines are those of the slices between them.
-    ensures headline { WhereDue (H.told host.old) (texts words.now) (λ task w.
-        CanRise (H.faults host.old) → H.faults host.new ≡ H.faults host.old →
-        IsDelivered (H.told host.old) (due_task task w (slicing_in result)) result
-        (H.told host.new)) }
-    ensures sliced { WhereDue (H.told host.old) (texts words.now) (λ task w.
-        TellsSlices task w
-        (shows (P.period_shown pacer.old) (P.tally pacer.old) (P.answers pacer.old))
-        (shows (P.period_shown pacer.new) (P.tally pacer.new) (P.answers pacer.new)) result) }
+    ensures headline { IsDeliveredAt (task_of (texts words.now)) (H.told host.old) (H.faults host.old)
+        result (H.told host.new) (H.faults host.new) }
+    ensures sliced { TellsSlicesAt (task_of (texts words.now)) (H.told host.old)
+        (shows (P.period_shown pacer.old) (P.tally pacer.old) (P.answers pacer.old)) result
+        (shows (P.period_shown pacer.new) (P.tally pacer.new) (P.answers pacer.new)) }
 
     // The cause of every other answer, where no call of the run failed and memory was found.
-    ensures causes { WhereDue (H.told host.old) (texts words.now) (λ task w.
-        CanRise (H.faults host.old) → NoneRose (H.faults host.old) (H.faults host.new) →
-        result ≢ Answer.Refused Refusal.NoMemory →
-        IsCaused (due_task task w (slicing_in result)) (H.faults host.old)
-        (H.faults host.new) result) }
+    ensures causes { IsCausedAt (task_of (texts words.now)) (H.told host.old) (H.faults host.old)
+        result (H.faults host.new) }
 
     // Whatever is answered, what was sent to an output is a beginning of what the run sends there.
-    ensures front { WhereDue (H.told host.old) (texts words.now) (λ task w.
-        AddsFront (H.told host.old).out (due_task task w (slicing_in result)).out
-        (H.told host.new).out) }
-    ensures error_front { WhereDue (H.told host.old) (texts words.now) (λ task w.
-        AddsFront (H.told host.old).err (due_task task w (slicing_in result)).err
-        (H.told host.new).err) }
+    ensures front { AddsFrontAt (task_of (texts words.now)) (H.told host.old) result (H.told host.new) }
+    ensures error_front { AddsErrorFrontAt (task_of (texts words.now)) (H.told host.old) result (H.told host.new) }
 
     // A demonstration: what it prints is what the definitions say of the program of its number, on every host.
     ensures demo { (n : ℕ) → demo_wanted (words_wanted (texts words.now)) ≡ Some n

@@ -1,10 +1,10 @@
 // The text of a file's code.
-ghost use Rattle.std.specs.Prelude.{◌≡◌, ◌≤◌, [], IfErr, IfOk, MatchResult, None, length};
+ghost use Rattle.std.specs.Prelude.{◌≡◌, ◌≤◌, [], IfErr, IfOk, None, length};
 ghost use Rattle.sp_report.specs.View.{view_text};
 ghost use Rattle.sp_host.specs.Told.{WhereTold, file_of};
 ghost use Rattle.sp_host.specs.Whole.{most_file};
 ghost use Rattle.master_run.specs.Answers.{PacerState};
-ghost use Rattle.superpin_top.specs.Causes.{CausedBy, cause_of};
+ghost use Rattle.superpin_top.specs.Causes.{HasCause, cause_of};
 ghost use Rattle.superpin_top.specs.Due.{view_task};
 ghost use Rattle.superpin_top.specs.Outcome.{AttemptGives, IsDecided, WhereAllTold};
 ghost use Rattle.superpin_top.specs.Top.{IsPastWords, TextGives};
@@ -48,8 +48,7 @@ fn text_asked<H: Host>(alloc: Global, name: &str, host: &mut H) -> Result<Vec<u8
     ensures told { H.told host.new ≡ H.told host.old }
     ensures text { WhereTold (H.told host.old).files
         (λ files. TextGives (view_task (file_of files name.now)) result) }
-    ensures faults { MatchResult result (λ _. H.faults host.new ≡ H.faults host.old)
-        (λ e. CausedBy e (H.faults host.old) (H.faults host.new)) }
+    ensures faults { HasCause (H.faults host.old) (H.faults host.new) result }
     ensures past { IfErr result IsPastWords }
 {
     let file = match read_program(alloc, host, name) {
@@ -66,8 +65,7 @@ pub(crate) fn view_asked<H: Host>(alloc: Global, name: &str, host: &mut H) -> Re
         (λ files. IsDecided (view_task (file_of files name.now)) result) }
     ensures told { (pacer : PacerState) → WhereAllTold (H.told host.old) (λ files w. AttemptGives (H.told host.old)
         (view_task (file_of files name.now)) w pacer result (H.told host.new) pacer) }
-    ensures faults { MatchResult result (λ _. H.faults host.new ≡ H.faults host.old)
-        (λ e. CausedBy e (H.faults host.old) (H.faults host.new)) }
+    ensures faults { HasCause (H.faults host.old) (H.faults host.new) result }
     ensures past { IfErr result IsPastWords }
     ensures uncut { IfOk result (λ done. done.cuts ≡ []) }
 {

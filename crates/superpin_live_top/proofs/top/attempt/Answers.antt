@@ -17,7 +17,7 @@ returns-in-Ok-Run-clause-tried g c =
     let now = shows (g.P.Pacer.period_shown c.run_asked.new.pacer) (g.P.Pacer.tally c.run_asked.new.pacer) (g.P.Pacer.answers c.run_asked.new.pacer) in
     asked_attempted (live_words_wanted words) (live_task_of words) (task_is words) (g.H.Host.told c.args.host.now) (g.H.Host.faults c.args.host.now) first
     (ToRun (run_of_asked c.in-Ok-Run.run')) c.run_asked.result (g.H.Host.told c.run_asked.new.host) (g.H.Host.faults c.run_asked.new.host) now
-    is c.run_asked.ensures.early c.run_asked.ensures.told c.run_asked.ensures.faults c.run_asked.ensures.past
+    is c.run_asked.ensures
 
 pub returns-in-Err-clause-tried : goal.returns-in-Err-clause-tried
 returns-in-Err-clause-tried g c =

@@ -1,8 +1,8 @@
-use Rattle.std.proofs.Common.{◌≡◌, subst}
-use Rattle.std.specs.Prelude.{Result, MatchResult}
+use Rattle.std.proofs.Common.{subst}
+use Rattle.std.specs.Prelude.{Result}
 use Rattle.sp_report.specs.declared.answer.Refusal.{Refusal}
 use Rattle.superpin_top.specs.Answered.{IsAttempt}
-use Rattle.superpin_top.specs.Causes.{CausedBy}
+use Rattle.superpin_top.specs.Causes.{HasCause}
 use Rattle.superpin_top.specs.Outcome.{DemoTells}
 use Rattle.superpin_top.specs.declared.engine.Done.{Done}
 use Rattle.superpin_top.proofs.Answered.{done_answers, refused_answers}
@@ -27,7 +27,7 @@ returns-in-Ok-clause-demo g c n t before tells faults =
     let new = g.H.Host.told c.args.host.now in
     let after = g.H.Host.faults c.args.host.now in
     demo_ended n t new before after c.in-Ok.done (subst (λ (tried : Result Done Refusal). DemoTells n t tried new) c.in-Ok.is tells)
-    (subst (λ (tried : Result Done Refusal). MatchResult tried (λ _. after ≡ before) (λ e. CausedBy e before after)) c.in-Ok.is faults)
+    (subst (λ (tried : Result Done Refusal). HasCause before after tried) c.in-Ok.is faults)
 
 pub returns-in-Err-clause-demo : goal.returns-in-Err-clause-demo
 returns-in-Err-clause-demo g c n t before tells faults =
@@ -37,6 +37,6 @@ returns-in-Err-clause-demo g c n t before tells faults =
       mid = mid;
       middle = middle;
       refuses = subst (λ (tried : Result Done Refusal). DemoTells n t tried mid) c.in-Err.is tells;
-      caused = subst (λ (tried : Result Done Refusal). MatchResult tried (λ _. middle ≡ before) (λ e. CausedBy e before middle)) c.in-Err.is faults;
+      caused = subst (λ (tried : Result Done Refusal). HasCause before middle tried) c.in-Err.is faults;
       writes = c.refuse.ensures;
     }

@@ -18,7 +18,7 @@ returns-in-Ok-Run-clause-tried g c =
     let now = shows (g.P.Pacer.period_shown c.run_asked.new.pacer) (g.P.Pacer.tally c.run_asked.new.pacer) (g.P.Pacer.answers c.run_asked.new.pacer) in
     asked_attempted (words_wanted words) (task_of words) (task_is words) (g.H.Host.told c.args.host.now) (g.H.Host.faults c.args.host.now) first
     (ToRun (run_of_asked c.in-Ok-Run.run')) c.run_asked.result (g.H.Host.told c.run_asked.new.host) (g.H.Host.faults c.run_asked.new.host) now
-    is c.run_asked.ensures.early c.run_asked.ensures.told c.run_asked.ensures.faults c.run_asked.ensures.past
+    is c.run_asked.ensures.tried
 
 pub returns-in-Ok-View-clause-tried : goal.returns-in-Ok-View-clause-tried
 returns-in-Ok-View-clause-tried g c =
@@ -27,7 +27,7 @@ returns-in-Ok-View-clause-tried g c =
     let first = shows (g.P.Pacer.period_shown c.args.pacer.now) (g.P.Pacer.tally c.args.pacer.now) (g.P.Pacer.answers c.args.pacer.now) in
     asked_attempted (words_wanted words) (task_of words) (task_is words) (g.H.Host.told c.args.host.now) (g.H.Host.faults c.args.host.now) first
     (ToView c.as_str.result.now) c.view_asked.result (g.H.Host.told c.view_asked.new.host) (g.H.Host.faults c.view_asked.new.host) first
-    is c.view_asked.ensures.early (c.view_asked.ensures.told first) c.view_asked.ensures.faults c.view_asked.ensures.past
+    is (record { early = c.view_asked.ensures.early; told = c.view_asked.ensures.told first; faults = c.view_asked.ensures.faults; past = c.view_asked.ensures.past })
 
 pub returns-in-Ok-Demo-clause-tried : goal.returns-in-Ok-Demo-clause-tried
 returns-in-Ok-Demo-clause-tried g c =
@@ -36,7 +36,7 @@ returns-in-Ok-Demo-clause-tried g c =
     let first = shows (g.P.Pacer.period_shown c.args.pacer.now) (g.P.Pacer.tally c.args.pacer.now) (g.P.Pacer.answers c.args.pacer.now) in
     asked_attempted (words_wanted words) (task_of words) (task_is words) (g.H.Host.told c.args.host.now) (g.H.Host.faults c.args.host.now) first
     (ToDemo c.in-Ok-Demo.n) c.demo_asked.result (g.H.Host.told c.demo_asked.new.host) (g.H.Host.faults c.demo_asked.new.host) first
-    is (λ files files_are. tt) (λ files w files_are input moments. tt) c.demo_asked.ensures.faults c.demo_asked.ensures.past
+    is (record { early = λ files files_are. tt; told = λ files w files_are input moments. tt; faults = c.demo_asked.ensures.faults; past = c.demo_asked.ensures.past })
 
 pub returns-in-Err-clause-tried : goal.returns-in-Err-clause-tried
 returns-in-Err-clause-tried g c =
