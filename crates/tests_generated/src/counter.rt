@@ -1,56 +1,32 @@
-// The program that counts words. Each count is of the input, by hand.
+// The program that counts words, run each way. Each count is of the input, by hand.
 ghost use Rattle.std.specs.Prelude.{◌<◌};
 
 use prog_gen::word_counter;
-use sp_host::{EveryPacer, FaultPlan, MemoryHost, Port};
+use sp_host::{EveryPacer, FaultPlan, FreeGate, MemoryHost, Port};
 use std::alloc::Global;
+use std::sync::Wait;
 use std::test::Fail;
 use std::thread::Threads;
+use superpin_live_top::superpin_live;
 use superpin_top::{exit_code, superpin};
 
+/// How a run is made.
+#[derive(Clone, Copy)]
+enum Way {
+    Serial,
+    Windows,
+    Live,
+}
+
 /// What a run left.
-#[derive(Drop)]
+#[derive(Drop, PartialEq)]
 struct Left {
     status: u8,
     out: Vec<u8>,
     report: Vec<u8>,
 }
 
-// So often `ab cd` and a line end, and then a word without one.
-fn input(alloc: Global, lines: u32, word: &str) -> Result<Vec<u8>, Fail> {
-    let mut bytes = Vec::new(alloc);
-    for _ in 0..lines {
-        bytes.extend_from_slice(b"ab cd\n")?;
-    }
-    bytes.extend_from_slice(word.as_bytes())?;
-    Ok(bytes)
-}
-
-// The counter's run over an input, with a pacer that grants each 64th ask.
-fn run<R: Threads + Sync>(
-    rt: &R,
-    alloc: Global,
-    words: &[&str],
-    input: Vec<u8>,
-) -> Result<Left, Fail> {
-    let mut files = Vec::new(alloc);
-    files.push(("f".to_string(alloc)?, word_counter(alloc)?))?;
-    let plan = FaultPlan::new(alloc, 65_536, 65_536);
-    let mut host = MemoryHost::new(alloc, files, input, Vec::new(alloc), plan)?;
-    let mut all = Vec::new(alloc);
-    for word in words {
-        all.push(word.to_string(alloc)?)?;
-    }
-    let mut pacer = EveryPacer::new(64);
-    let answer = superpin(rt, alloc, &all, &mut host, &mut pacer);
-    Ok(Left {
-        status: exit_code(&answer),
-        out: host.written(Port::Out).to_vec(alloc)?,
-        report: host.written(Port::Report).to_vec(alloc)?,
-    })
-}
-
-// An input, and what is printed of it.
+/// An input: so often `ab cd` and a line end, and then a word without one; and what is printed of it.
 struct Row {
     lines: u32,
     word: &'static str,
@@ -75,48 +51,83 @@ const ROWS: [Row; 3] = [
     },
 ];
 
+const TOOLS: [&str; 6] = ["icount", "bcount", "mix", "blocks", "calls", "cache"];
+
+// A host in memory with the counter as the file `f`, and the input of a row.
+fn host_of(alloc: Global, row: &Row) -> Result<MemoryHost, Fail> {
+    let mut input = Vec::new(alloc);
+    for _ in 0..row.lines {
+        input.extend_from_slice(b"ab cd\n")?;
+    }
+    input.extend_from_slice(row.word.as_bytes())?;
+    let mut files = Vec::new(alloc);
+    files.push(("f".to_string(alloc)?, word_counter(alloc)?))?;
+    let plan = FaultPlan::new(alloc, 65_536, 65_536);
+    Ok(MemoryHost::new(alloc, files, input, Vec::new(alloc), plan)?)
+}
+
+// The counter's run under a tool, with a pacer that grants each 64th ask.
+fn run<R: Threads + Wait + Sync>(
+    rt: &R,
+    alloc: Global,
+    way: Way,
+    tool: &str,
+    row: &Row,
+) -> Result<Left, Fail> {
+    let mut host = host_of(alloc, row)?;
+    let mut words = Vec::new(alloc);
+    words.push("run".to_string(alloc)?)?;
+    if let Way::Serial = way {
+        words.push("--by=serial".to_string(alloc)?)?;
+    }
+    for word in ["--tool", tool, "f"] {
+        words.push(word.to_string(alloc)?)?;
+    }
+    let mut pacer = EveryPacer::new(64);
+    let answer = match way {
+        Way::Live => superpin_live(rt, alloc, &words, &mut host, &mut pacer, &FreeGate),
+        Way::Serial | Way::Windows => superpin(rt, alloc, &words, &mut host, &mut pacer),
+    };
+    Ok(Left {
+        status: exit_code(&answer),
+        out: host.written(Port::Out).to_vec(alloc)?,
+        report: host.written(Port::Report).to_vec(alloc)?,
+    })
+}
+
 #[test]
 fn words_are_counted(rt: HostRuntime) -> Result<(), Fail> {
-    let alloc = rt.alloc();
     for (k, row) in ROWS.iter().enumerate() {
-        let serial = ["run", "--by", "serial", "f"];
-        let left = run(&rt, alloc, &serial, input(alloc, row.lines, row.word)?)?;
+        let serial = run(&rt, rt.alloc(), Way::Serial, "icount", row)?;
         assert!(rt;
-            left.status == 0 && left.out.as_slice() == row.out.as_bytes(),
+            serial.status == 0 && serial.out.as_slice() == row.out.as_bytes(),
             "row {k}"
         );
-        let windows = run(
-            &rt,
-            alloc,
-            &["run", "f"],
-            input(alloc, row.lines, row.word)?,
-        )?;
-        assert!(rt; windows.status == 0 && windows.out == left.out, "row {k}");
-        assert!(rt; windows.report == left.report, "row {k}");
+        let windows = run(&rt, rt.alloc(), Way::Windows, "icount", row)?;
+        assert!(rt; windows == serial, "row {k}, by windows");
+        let live = run(&rt, rt.alloc(), Way::Live, "icount", row)?;
+        assert!(rt; live == serial, "row {k}, live");
     }
     Ok(())
 }
 
-const TOOLS: [&str; 6] = ["icount", "bcount", "mix", "blocks", "calls", "cache"];
-
 #[test]
 fn each_tool_reports_the_same(rt: HostRuntime) -> Result<(), Fail> {
-    let alloc = rt.alloc();
+    let row = Row {
+        lines: 400,
+        word: "xy",
+        out: "400 801 2402\n10 400\n32 400\n97 400\n98 400\n99 400\n100 400\n120 1\n121 1\n",
+    };
     for tool in TOOLS {
-        let serial = ["run", "--by", "serial", "--tool", tool, "f"];
-        let one = run(&rt, alloc, &serial, input(alloc, 400, "xy")?)?;
-        let windows = run(
-            &rt,
-            alloc,
-            &["run", "--tool", tool, "f"],
-            input(alloc, 400, "xy")?,
-        )?;
-        assert!(rt; one.status == 0 && windows.status == 0, "{}", tool);
+        let serial = run(&rt, rt.alloc(), Way::Serial, tool, &row)?;
         assert!(rt;
-            windows.out == one.out && windows.report == one.report,
-            "{}",
-            tool
+            serial.status == 0 && serial.out.as_slice() == row.out.as_bytes(),
+            "{tool}"
         );
+        let windows = run(&rt, rt.alloc(), Way::Windows, tool, &row)?;
+        assert!(rt; windows == serial, "{tool}, by windows");
+        let live = run(&rt, rt.alloc(), Way::Live, tool, &row)?;
+        assert!(rt; live == serial, "{tool}, live");
     }
     Ok(())
 }

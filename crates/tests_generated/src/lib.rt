@@ -1,4 +1,4 @@
-//! Tests of generated programs through the top call: what they print, and that a run by windows reports what the serial one does.
+//! Tests of generated programs through the top call: what they print, and that runs by windows and live report what the serial one does.
 #![tactic(auto)]
 
 #[cfg(test)]

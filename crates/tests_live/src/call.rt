@@ -1,18 +1,19 @@
 // The call that is tried, over a host in memory.
 use hostile_rows::{Row as Hostile, host_of, is_met, words_of};
-use sample_files::two_segments;
+use sample_files::{one_segment, two_segments};
 use sp_host::{FaultPlan, FreeGate, Gate, ListPacer, MemoryHost, Pacer, Port};
-use std::alloc::Global;
+use std::alloc::{AllocError, Global};
 use std::sync::Wait;
 use std::test::Fail;
 use std::thread::Threads;
 use superpin_live_top::{Answer, superpin_live};
 
-/// A program, which is the file `f`, and has a second segment of zeros at 0x20000; the words, the pacer's answers; and what its
-/// run leaves: its status, where it was cut, and the bytes on the standard output and on the port of reports.
+/// A program, which is the file `f`, with a second segment of zeros at 0x20000 where `data` is true; the words, the pacer's answers;
+/// and what its run leaves: its status, where it was cut, and the bytes on the standard output and on the port of reports.
 #[derive(Clone, Copy)]
 pub(crate) struct Row {
     pub(crate) code: &'static [u32],
+    pub(crate) data: bool,
     pub(crate) words: &'static [&'static str],
     pub(crate) pacer: &'static [bool],
     pub(crate) status: u8,
@@ -31,7 +32,16 @@ fn is_ended(answer: &Answer, row: &Row) -> bool {
     }
 }
 
-/// Whether the live run of a row leaves what it must, with this gate.
+fn file_of(alloc: Global, row: &Row) -> Result<Vec<u8>, AllocError> {
+    if row.data {
+        two_segments(alloc, row.code)
+    } else {
+        one_segment(alloc, row.code)
+    }
+}
+
+/// Whether the live run of a row leaves what it must, with this gate. The input is `ab`, and the fourth moment is a second behind the
+/// first.
 pub(crate) fn holds<G: Gate + Sync, R: Threads + Wait + Sync>(
     rt: &R,
     alloc: Global,
@@ -43,10 +53,10 @@ pub(crate) fn holds<G: Gate + Sync, R: Threads + Wait + Sync>(
         words.push(word.to_string(alloc)?)?;
     }
     let mut files = Vec::new(alloc);
-    files.push(("f".to_string(alloc)?, two_segments(alloc, row.code)?))?;
+    files.push(("f".to_string(alloc)?, file_of(alloc, row)?))?;
     let plan = FaultPlan::new(alloc, 65_536, 65_536);
-    let input = Vec::new(alloc);
-    let moments = Vec::new(alloc);
+    let input = b"ab".to_vec(alloc)?;
+    let moments = [0, 0, 0, 1_000_000_000].to_vec(alloc)?;
     let mut host = MemoryHost::new(alloc, files, input, moments, plan)?;
     let mut pacer = ListPacer::new(row.pacer.to_vec(alloc)?);
     let answer = superpin_live(rt, alloc, &words, &mut host, &mut pacer, gate);

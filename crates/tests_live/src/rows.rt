@@ -3,6 +3,9 @@ use crate::call::{Row, holds};
 use sp_host::FreeGate;
 use std::test::Fail;
 
+/// `exit(7)`.
+const EXIT: [u32; 3] = [0x05d00893, 0x00700513, 0x00000073];
+
 /// `addi x5, x0, 1`, `addi x5, x5, 1`, then `exit(7)`.
 const ADD_TWICE: [u32; 5] = [0x00100293, 0x00128293, 0x05d00893, 0x00700513, 0x00000073];
 
@@ -10,6 +13,35 @@ const ADD_TWICE: [u32; 5] = [0x00100293, 0x00128293, 0x05d00893, 0x00700513, 0x0
 const COUNT_TO_SIX: [u32; 12] = [
     0x00020337, 0x00600393, 0x00032283, 0x00128293, 0x00532023, 0x407282b3, 0x00028663, 0x00000293,
     0xfe9ff06f, 0x05d00893, 0x00700513, 0x00000073,
+];
+
+/// Asks `getpid` and the clock until a second has passed, then `exit(7)`.
+const WAIT_A_SECOND: [u32; 12] = [
+    0x00020337, 0x0ac00893, 0x00000073, 0x19300893, 0x00100513, 0x00030593, 0x00000073, 0x00032283,
+    0xfe0282e3, 0x05d00893, 0x00700513, 0x00000073,
+];
+
+/// `write(1, 0x10078, 6)`, `exit(0)`, then `hello` and a line end.
+const HELLO: [u32; 11] = [
+    0x04000893, 0x00100513, 0x000105b7, 0x07858593, 0x00600613, 0x00000073, 0x05d00893, 0x00000513,
+    0x00000073, 0x6c6c6568, 0x00000a6f,
+];
+
+/// Two reads of one byte to 0x20000, then `exit(7)`.
+const READ_TWICE: [u32; 10] = [
+    0x000205b7, 0x03f00893, 0x00000513, 0x00100613, 0x00000073, 0x00000513, 0x00000073, 0x05d00893,
+    0x00700513, 0x00000073,
+];
+
+/// Loads two words of one line, then `exit(7)`.
+const LOAD_A_LINE: [u32; 6] = [
+    0x00020337, 0x00032283, 0x00432283, 0x05d00893, 0x00700513, 0x00000073,
+];
+
+/// Calls to depth 3, returns and calls again, then `exit(7)`.
+const CALL_DEEP: [u32; 14] = [
+    0x014000ef, 0x030000ef, 0x05d00893, 0x00700513, 0x00000073, 0x00008413, 0x00c000ef, 0x00040093,
+    0x00008067, 0x00008493, 0x00c000ef, 0x00048093, 0x00008067, 0x00008067,
 ];
 
 /// Maps 100 pages and writes one word to each, then `exit(7)`.
@@ -20,6 +52,7 @@ const WRITE_PAGES: [u32; 14] = [
 
 const ADDS: Row = Row {
     code: &ADD_TWICE,
+    data: false,
     words: &["run", "f"],
     pacer: &[],
     status: 7,
@@ -31,6 +64,7 @@ const ADDS: Row = Row {
 /// Cut in its fourth turn.
 pub(crate) const COUNTS: Row = Row {
     code: &COUNT_TO_SIX,
+    data: true,
     words: &[
         "run",
         "--poll",
@@ -48,7 +82,26 @@ pub(crate) const COUNTS: Row = Row {
     ..ADDS
 };
 
-const ROWS: [Row; 7] = [
+const HELLO_CUT: Row = Row {
+    code: &HELLO,
+    words: &["run", "--poll", "1", "--slices", "f"],
+    pacer: &[true; 8],
+    status: 0,
+    cuts: &[1, 2, 3, 4, 5, 6, 7, 8],
+    out: b"hello\n",
+    report: b"icount 9\nend exit 0\n\
+        slice 0 1 0 1 1 1 1\nslice 1 1 0 1 1 1 1\nslice 2 1 0 1 1 1 1\n\
+        slice 3 1 0 1 1 1 1\nslice 4 1 0 1 1 1 1\nslice 5 1 1 1 1 1 1\n\
+        slice 6 1 0 1 1 1 1\nslice 7 1 0 1 1 1 1\nslice 8 1 0 0 0 0 0\n",
+    ..ADDS
+};
+
+const ROWS: [Row; 15] = [
+    Row {
+        code: &EXIT,
+        report: b"icount 3\nend exit 7\n",
+        ..ADDS
+    },
     ADDS,
     Row {
         words: &["run", "--workers", "16", "--tool", "bcount", "f"],
@@ -59,7 +112,14 @@ const ROWS: [Row; 7] = [
         words: &["run", "--poll", "1", "--tool", "blocks", "f"],
         pacer: &[false, true],
         cuts: &[2],
-        report: b"block 0x00010074 5 1 -\nend exit 7\n",
+        report: b"block 0x00010054 5 1 -\nend exit 7\n",
+        ..ADDS
+    },
+    Row {
+        words: &["run", "--poll", "1", "--tool", "bcount", "f"],
+        pacer: &[false, true],
+        cuts: &[2],
+        report: b"bcount 1 5\nend exit 7\n",
         ..ADDS
     },
     COUNTS,
@@ -67,6 +127,45 @@ const ROWS: [Row; 7] = [
         words: &["run", "--poll", "23", "--limit", "1", "--workers", "1", "f"],
         report: b"icount 45\nend exit 7\n",
         ..COUNTS
+    },
+    Row {
+        code: &WAIT_A_SECOND,
+        words: &["run", "--poll", "25", "--slices", "f"],
+        cuts: &[25],
+        report: b"icount 36\nend exit 7\nslice 0 25 6 1 1 1 1\nslice 1 11 2 0 0 0 0\n",
+        ..COUNTS
+    },
+    HELLO_CUT,
+    Row {
+        words: &["run", "--poll", "1", "--limit", "1", "--workers", "1", "f"],
+        report: b"icount 9\nend exit 0\n",
+        ..HELLO_CUT
+    },
+    Row {
+        code: &READ_TWICE,
+        words: &["run", "--poll", "1", "f"],
+        pacer: &[true; 9],
+        cuts: &[1, 2, 3, 4, 5, 6, 7, 8, 9],
+        report: b"icount 10\nend exit 7\n",
+        ..COUNTS
+    },
+    Row {
+        code: &LOAD_A_LINE,
+        data: true,
+        words: &["run", "--poll", "1", "--tool", "cache:2:16", "f"],
+        pacer: &[false, true],
+        cuts: &[2],
+        report: b"cache 2 16 accesses 2 hits 1 misses 1\nend exit 7\n",
+        ..ADDS
+    },
+    Row {
+        code: &CALL_DEEP,
+        words: &["run", "--poll", "5", "--tool", "calls", "f"],
+        pacer: &[true],
+        cuts: &[5],
+        report: b"call 0 0x00010054 0x00010068 -\ncall 1 0x0001006c 0x00010078 -\n\
+            call 2 0x0001007c 0x00010088 -\ncall 0 0x00010058 0x00010088 -\nend exit 7\n",
+        ..ADDS
     },
     Row {
         code: &WRITE_PAGES,
