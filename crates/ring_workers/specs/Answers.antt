@@ -1,5 +1,5 @@
 -- What the workers' part has to do with a job, and what taking back their seats leaves.
-use Rattle.std.specs.Prelude.{◌≡◌, ℕ, ◌+◌}
+use Rattle.std.specs.Prelude.{◌≡◌, ℕ, ◌+◌, Some}
 use Rattle.slice_ring.specs.Ticket.{Ticket}
 use Rattle.slice_ring.specs.Seats.{RingId, SeatView, with_view}
 
@@ -12,3 +12,7 @@ Answers {T} {J} {P} job piece ring pre post =
 -- a lead's seat, after it took back so many seats
 abbrev pub IsSameBut : {T : Type 0} → ℕ → SeatView T → SeatView T → Type 0
 IsSameBut n old new = new ≡ with_view old (record old.view { retired = old.view.retired + n })
+
+-- the last word that the seat looked at was the closing word, and it was that of a closed ring
+abbrev pub HasSeenClose : {T : Type 0} → SeatView T → Type 0
+HasSeenClose seat = seat.view.glance ≡ Some (record { word = 1; look = seat.view.looks })

@@ -3,7 +3,7 @@
 
 ghost use Rattle.std.specs.Prelude.{◌≡◌, ◌+◌, ◌<◌, All, length};
 ghost use Rattle.slice_ring.specs.Seats.{with_view, IsOf, IsIdle};
-ghost use Rattle.ring_workers.specs.Answers.{Answers, IsSameBut};
+ghost use Rattle.ring_workers.specs.Answers.{Answers, HasSeenClose, IsSameBut};
 
 use crossbeam_utils::Backoff;
 use slice_ring::{LeadSeat, Numbered, Ring, WorkSeat};
@@ -33,7 +33,8 @@ pub fn work<
 >(rt: &R, ring: &Ring<J, P>, seat: &mut WorkSeat<J, P>, answer: &W)
     requires seat { IsIdle ring.now seat.old }
     requires answers { Answers J.ticket P.ticket ring.now (W.pre answer.now) (W.post answer.now) }
-    ensures { IsIdle ring.now seat.new }
+    ensures idle { IsIdle ring.now seat.new }
+    ensures closed { HasSeenClose seat.new }
 {
     let backoff = Backoff::new();
     let parker = Parker::new();
@@ -63,7 +64,8 @@ pub fn work_all<
     requires some { 0 < length seats.old }
     requires idle { All (IsIdle ring.now) seats.old }
     requires answers { Answers J.ticket P.ticket ring.now (W.pre answer.now) (W.post answer.now) }
-    ensures { All (IsIdle ring.now) seats.new }
+    ensures idle { All (IsIdle ring.now) seats.new }
+    ensures closed { All HasSeenClose seats.new }
 {
     let threads = seats.len();
     for_each_mut(
@@ -73,7 +75,7 @@ pub fn work_all<
         &|_, seat: &mut WorkSeat<J, P>|
             requires { IsIdle ring.now seat.now
                 × Answers J.ticket P.ticket ring.now (W.pre answer.now) (W.post answer.now) }
-            ensures { IsIdle ring.entry.now seat.exit.now }
+            ensures { IsIdle ring.entry.now seat.exit.now × HasSeenClose seat.exit.now }
         { work(rt, ring, seat, answer) },
     );
 }
@@ -101,6 +103,7 @@ pub fn run_beside<
     requires answers { Answers J.ticket P.ticket ring.now (W.pre answer.now) (W.post answer.now) }
     requires lead { L.pre lead.old }
     ensures idle { All (IsIdle ring.now) seats.new }
+    ensures closed { All HasSeenClose seats.new }
     ensures lead { L.step lead.old result lead.new }
 {
     join_mut(
@@ -108,7 +111,7 @@ pub fn run_beside<
         &mut ||
             requires { (0 < length seats.now) × All (IsIdle ring.now) seats.now
                 × Answers J.ticket P.ticket ring.now (W.pre answer.now) (W.post answer.now) }
-            ensures { All (IsIdle ring.entry.now) seats.exit.now }
+            ensures { All (IsIdle ring.entry.now) seats.exit.now × All HasSeenClose seats.exit.now }
         { work_all(rt, ring, answer, seats) },
         lead,
     )
