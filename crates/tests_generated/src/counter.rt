@@ -27,6 +27,7 @@ struct Left {
 }
 
 /// An input: so often `ab cd` and a line end, and then a word without one; and what is printed of it.
+#[derive(Clone, Copy)]
 struct Row {
     lines: u32,
     word: &'static str,
