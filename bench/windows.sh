@@ -26,7 +26,7 @@
 # with that of the serial run.
 #
 # The programs in out/ are run as they stand: `rt ci guest_bench superpin` makes them; SUPERPIN, SUPERPIN_LIVE and GUEST_BENCH may name others. With
-# LENGTH=short the guests are some twenty times shorter, to try the script. Needs guest/superpin-cc, GNU time (/usr/bin/time), awk and bash.
+# LENGTH=middle the guests are four times shorter, and with LENGTH=short some twenty times. Needs guest/superpin-cc, GNU time (/usr/bin/time), awk and bash.
 set -eu
 export LC_ALL=C
 
@@ -180,8 +180,9 @@ show_live() {
 
 case ${LENGTH:-long} in
     long) size=660 rounds=20 blocks=140000 page_rounds=200 ;;
+    middle) size=416 rounds=5 blocks=35000 page_rounds=50 ;;
     short) size=240 rounds=1 blocks=7000 page_rounds=10 ;;
-    *) fail 'LENGTH is long, or short' ;;
+    *) fail 'LENGTH is long, middle or short' ;;
 esac
 case $mode in
     ratios)
