@@ -1,5 +1,5 @@
 // The call that is tried, over a host in memory.
-use hostile_rows::{Row as Hostile, host_of, is_met, words_of};
+use hostile_rows::{Row as Hostile, Wanted, host_of, is_met, words_of};
 use sample_files::{one_segment, two_segments};
 use sp_host::{FaultPlan, FreeGate, Gate, ListPacer, MemoryHost, Pacer, Port};
 use std::alloc::{AllocError, Global};
@@ -9,26 +9,27 @@ use std::thread::Threads;
 use superpin_live_top::{Answer, superpin_live};
 
 /// A program, which is the file `f`, with a second segment of zeros at 0x20000 where `data` is true; the words, the pacer's answers;
-/// and what its run leaves: its status, where it was cut, and the bytes on the standard output and on the port of reports.
+/// and what its run leaves: the answer, where it was cut if it ended, and the bytes on the standard output and on the port of reports.
 #[derive(Clone, Copy)]
 pub(crate) struct Row {
     pub(crate) code: &'static [u32],
     pub(crate) data: bool,
     pub(crate) words: &'static [&'static str],
     pub(crate) pacer: &'static [bool],
-    pub(crate) status: u8,
+    pub(crate) answer: Wanted,
     pub(crate) cuts: &'static [u64],
     pub(crate) out: &'static [u8],
     pub(crate) report: &'static [u8],
 }
 
-// Whether the run ended so.
-fn is_ended(answer: &Answer, row: &Row) -> bool {
-    match answer {
-        Answer::Ended { status, cuts, .. } => {
-            *status == row.status && cuts.positions() == row.cuts
+// Whether that is the answer.
+fn is_answered(answer: &Answer, row: &Row) -> bool {
+    match (answer, row.answer) {
+        (Answer::Ended { status, cuts, .. }, Wanted::Status(wanted)) => {
+            *status == wanted && cuts.positions() == row.cuts
         }
-        Answer::Refused(_) => false,
+        (Answer::Refused(refusal), Wanted::Refusal(wanted)) => *refusal == wanted,
+        _ => false,
     }
 }
 
@@ -61,7 +62,7 @@ pub(crate) fn holds<G: Gate + Sync, R: Threads + Wait + Sync>(
     let mut pacer = ListPacer::new(row.pacer.to_vec(alloc)?);
     let answer = superpin_live(rt, alloc, &words, &mut host, &mut pacer, gate);
     Ok(
-        is_ended(&answer, row)
+        is_answered(&answer, row)
             && host.written(Port::Out) == row.out
             && host.written(Port::Err).is_empty()
             && host.written(Port::Report) == row.report,

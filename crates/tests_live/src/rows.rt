@@ -1,7 +1,9 @@
 // Live runs. Each count is of the manual's instructions by hand, as the positions of cuts are.
 use crate::call::{Row, holds};
+use hostile_rows::Wanted;
 use sp_host::FreeGate;
 use std::test::Fail;
+use superpin_live_top::Refusal;
 
 /// `exit(7)`.
 const EXIT: [u32; 3] = [0x05d00893, 0x00700513, 0x00000073];
@@ -24,6 +26,12 @@ const WAIT_A_SECOND: [u32; 12] = [
 /// `write(1, 0x10078, 6)`, `exit(0)`, then `hello` and a line end.
 const HELLO: [u32; 11] = [
     0x04000893, 0x00100513, 0x000105b7, 0x07858593, 0x00600613, 0x00000073, 0x05d00893, 0x00000513,
+    0x00000073, 0x6c6c6568, 0x00000a6f,
+];
+
+/// The same with the call 1, which has no row, in the place of `exit`.
+const HELLO_AND_CALL_1: [u32; 11] = [
+    0x04000893, 0x00100513, 0x000105b7, 0x07858593, 0x00600613, 0x00000073, 0x00100893, 0x00000513,
     0x00000073, 0x6c6c6568, 0x00000a6f,
 ];
 
@@ -55,7 +63,7 @@ const ADDS: Row = Row {
     data: false,
     words: &["run", "f"],
     pacer: &[],
-    status: 7,
+    answer: Wanted::Status(7),
     cuts: &[],
     out: b"",
     report: b"icount 5\nend exit 7\n",
@@ -86,7 +94,7 @@ const HELLO_CUT: Row = Row {
     code: &HELLO,
     words: &["run", "--poll", "1", "--slices", "f"],
     pacer: &[true; 8],
-    status: 0,
+    answer: Wanted::Status(0),
     cuts: &[1, 2, 3, 4, 5, 6, 7, 8],
     out: b"hello\n",
     report: b"icount 9\nend exit 0\n\
@@ -96,7 +104,7 @@ const HELLO_CUT: Row = Row {
     ..ADDS
 };
 
-const ROWS: [Row; 15] = [
+const ROWS: [Row; 17] = [
     Row {
         code: &EXIT,
         report: b"icount 3\nend exit 7\n",
@@ -189,6 +197,22 @@ const ROWS: [Row; 15] = [
         cuts: &[136, 268, 400],
         report: b"icount 410\nend exit 7\n",
         ..ADDS
+    },
+    Row {
+        words: &["run", "--poll", "23", "--budget", "30", "f"],
+        answer: Wanted::Refusal(Refusal::BudgetSpent { n: 30 }),
+        report: b"superpin: 7 budget 30 spent\n",
+        ..COUNTS
+    },
+    Row {
+        code: &HELLO_AND_CALL_1,
+        words: &["run", "--poll", "1", "f"],
+        answer: Wanted::Refusal(Refusal::UnsupportedCall {
+            number: 1,
+            pc: 0x10074,
+        }),
+        report: b"superpin: 6 unsupported call 1 at 0x00010074\n",
+        ..HELLO_CUT
     },
 ];
 
