@@ -2,7 +2,10 @@
 # Measures superpin beside two interpreters in Rust, over guest programs of about 10^8 steps each:
 #
 #     bench/run.sh [TURNS]
+#     bench/run.sh windows [TURNS]
+#     bench/run.sh live [TURNS]
 #
+# The last two measure runs by windows, and live ones beside these, over three long programs: windows.sh has them and says what it prints.
 # The guests are a generated loop and, where guest/superpin-cc works, four programs in C. For each guest a line has the steps a
 # second, in millions, each the best of TURNS runs (5 where none is said) by the processor time that they took:
 #
@@ -14,14 +17,18 @@
 #
 # and then superpin / plain, run / fast and step / fast. Then each guest has a line for the master of a run by windows with all
 # defaults, which makes the cuts and drops the jobs (`guest_bench master`): its steps a second, and the same / run. Then each tool has a line for each guest: the steps a second of `superpin run
-# --by serial --tool NAME`, and the same / run. Runs by windows, which take longer programs, are measured by windows.sh. The
-# programs in out/ are run as they stand: `rt ci guest_bench superpin` makes them. Needs rustc, awk and bash, whose `times`
+# --by serial --tool NAME`, and the same / run. The programs in out/ are run as they stand: `rt ci guest_bench superpin
+# superpin_live` makes them. Needs rustc, awk and bash, whose `times`
 # counts thousandths of a second.
 set -eu
 export LC_ALL=C
 
 bench=$(cd "$(dirname "$0")" && pwd)
 top=$(dirname "$bench")
+case ${1:-} in
+    windows) shift; exec "$bench/windows.sh" ratios "$@" ;;
+    live) exec "$bench/windows.sh" "$@" ;;
+esac
 turns=${1:-5}
 superpin=$top/crates/superpin/out/superpin
 guest_bench=$top/crates/guest_bench/out/guest_bench
