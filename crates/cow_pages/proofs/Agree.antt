@@ -37,16 +37,16 @@ agree-outside slots frames base origin table marks all e view since frozen a h =
 pub same-everywhere : (slots : List Slot) (frames : List ℕ) (base origin end : Table) (changed : List ℕ) (all ends bases : List ℕ)
     → flat (byte_in slots frames base) ≡ all → flat (table_byte end) ≡ ends → flat (table_byte origin) ≡ bases → SameSince slots base origin
     → ((a : ℕ) → get_or (marks_of changed) (a / 4096) false ≡ false → get_or ends a 0 ≡ get_or bases a 0)
-    → ((a : ℕ) → a < 2 ^ 32 → is_named changed (a / 4096) ≡ true → byte_in slots frames base a ≡ table_byte end a)
+    → ((a : ℕ) → a < 2 ^ 32 → is_named changed (a / 4096) ≡ true → is_changed (slot_at slots (a / 4096)) ≡ false → byte_in slots frames base a ≡ table_byte end a)
     → ((a : ℕ) → a < 2 ^ 32 → is_changed (slot_at slots (a / 4096)) ≡ true → byte_in slots frames base a ≡ table_byte end a)
     → all ≡ ends
 same-everywhere slots frames base origin end changed all ends bases e d f since agree named own =
     sym e ∙ flat-same (table_byte end) (byte_in slots frames base) (λ a lt.
-    elim (cases_Bool (is_named changed (a / 4096))) [
-      | inl is ↦ named a lt is
-      | inr not ↦ elim (cases_Bool (is_changed (slot_at slots (a / 4096)))) [
-        | inl is ↦ own a lt is
-        | inr none ↦
+    elim (cases_Bool (is_changed (slot_at slots (a / 4096)))) [
+      | inl is ↦ own a lt is
+      | inr none ↦ elim (cases_Bool (is_named changed (a / 4096))) [
+        | inl is ↦ named a lt is none
+        | inr not ↦
             unchanged-byte (slot_at slots (a / 4096)) frames base a none
             ∙ since a lt none
             ∙ sym (get_or-flat (table_byte origin) a lt) ∙ ap (λ l. get_or l a 0) f

@@ -1,10 +1,10 @@
 // Pages are compared with those of another table.
-ghost use Rattle.std.specs.Prelude.{◌≡◌, ℕ, ◌+◌, ◌*◌, ◌/◌, ◌^◌, ◌<◌, ◌↔◌, true, length, slice_index, IsTrue};
+ghost use Rattle.std.specs.Prelude.{◌≡◌, ℕ, ◌+◌, ◌*◌, ◌/◌, ◌^◌, ◌<◌, ◌↔◌, true, false, length, slice_index, IsTrue};
 ghost use Rattle.slot_table.specs.Slots.{is_changed, slot_at};
 ghost use Rattle.cow_pages.specs.Laid.{IsLaid, byte_in, table_byte};
 ghost use Rattle.cow_pages.specs.Named.{is_named};
 
-use crate::overlay::{page_of, table_page};
+use crate::overlay::{page_of, table_page, was_changed};
 use frame_pool::Pool;
 use page_table::PageTable;
 use slot_table::SlotTable;
@@ -12,7 +12,7 @@ use slot_table::SlotTable;
 /// How many pages there are.
 const PAGES: u32 = 1_048_576;
 
-/// Whether the listed pages hold the bytes that they have in the other table.
+/// Whether the listed pages that were not changed hold the bytes that they have in the other table.
 pub(crate) fn same_listed(
     table: &PageTable,
     slots: &SlotTable,
@@ -22,11 +22,12 @@ pub(crate) fn same_listed(
 ) -> bool
     requires laid { IsLaid slots.now pool.now }
     ensures { IsTrue result ↔ ((a : ℕ) → a < 2 ^ 32 → is_named pages.now.items (a / 4096) ≡ true
+        → is_changed (slot_at slots.now (a / 4096)) ≡ false
         → byte_in slots.now pool.now.bytes table.now a ≡ table_byte end.now a) }
 {
     for k in 0..pages.len() {
         let page = pages[k];
-        if page < PAGES && !same_page(table, slots, pool, end, page) {
+        if page < PAGES && !was_changed(slots, page) && !same_page(table, slots, pool, end, page) {
             return false;
         }
     }
@@ -77,12 +78,7 @@ fn same_bytes(one: &[u8], other: &[u8]) -> bool
     requires { length one.now ≡ length other.now }
     ensures { IsTrue result ↔ ((i : ℕ) → i < length one.now → slice_index one.now i ≡ slice_index other.now i) }
 {
-    for i in 0..one.len() {
-        if one[i] != other[i] {
-            return false;
-        }
-    }
-    true
+    one == other
 }
 
 fn is_zero(bytes: &[u8]) -> bool

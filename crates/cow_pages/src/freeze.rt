@@ -49,7 +49,7 @@ fn freeze_page(
 {
     match slots.get(page) {
         Slot::Framed(frame) => {
-            let copy = Arc::new(alloc, PageBytes::with(0, pool.bytes(frame)))?;
+            let copy = Arc::new(alloc, PageBytes::of(pool.bytes(frame)))?;
             table.set(alloc, page, Some(copy))?;
             Ok(())
         }

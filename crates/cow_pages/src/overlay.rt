@@ -1,8 +1,8 @@
 // Frames laid over shared pages.
-ghost use Rattle.std.specs.Prelude.{◌≡◌, ℕ, ◌+◌, ◌*◌, ◌/◌, ◌%◌, ◌^◌, ◌<◌, ◌≤◌, ◌==◌, ◌↔◌, true, false, length, if◌then◌else◌, slice_index, slice_set, List, IsTrue, MatchOption};
+ghost use Rattle.std.specs.Prelude.{◌≡◌, ℕ, ◌+◌, ◌*◌, ◌/◌, ◌%◌, ◌^◌, ◌<◌, ◌≤◌, ◌==◌, ◌↔◌, true, false, length, if◌then◌else◌, slice_index, slice_set, List, IsNone, IsTrue, IfSome, MatchOption, OnSome};
 ghost use Rattle.frame_pool.specs.Bytes.{PutsBytes};
 ghost use Rattle.frame_pool.specs.PoolState.{is_given};
-ghost use Rattle.slot_table.specs.Slots.{is_framed, is_written, slot_at};
+ghost use Rattle.slot_table.specs.Slots.{is_changed, is_framed, is_written, slot_at};
 ghost use Rattle.cow_pages.specs.Laid.{IsLaid, byte_in, laid_byte, table_byte};
 
 use frame_pool::{Frame, Pool};
@@ -55,6 +55,17 @@ pub(crate) fn has_frame(slots: &SlotTable, page: u32) -> bool
     }
 }
 
+/// Whether the page was changed.
+pub(crate) fn was_changed(slots: &SlotTable, page: u32) -> bool
+    requires { page < 2 ^ 20 }
+    ensures { result ≡ is_changed (slot_at slots.now page) }
+{
+    match slots.get(page) {
+        Slot::Unchanged => false,
+        _ => true,
+    }
+}
+
 // Whether the page was written.
 fn was_written(slots: &SlotTable, page: u32) -> bool
     requires { page < 2 ^ 20 }
@@ -82,20 +93,21 @@ fn page_below<'a>(table: &'a PageTable, slots: &SlotTable, page: u32) -> Option<
     }
 }
 
-// The bytes of a page that has no frame are put into this one, which holds zeros.
-fn fill(table: &PageTable, slots: &SlotTable, pool: &mut Pool, frame: &Frame, page: u32)
+// Takes a frame for a page that has none, and puts the bytes of the page into it.
+fn take_filled(table: &PageTable, slots: &SlotTable, pool: &mut Pool, page: u32) -> Option<Frame>
     requires page { page < 2 ^ 20 }
     requires none { is_framed (slot_at slots.now page) ≡ false }
-    requires given { is_given pool.old frame.now ≡ true }
-    requires zeros { (i : ℕ) → i < 4096 → slice_index pool.old.bytes (4096 * frame.now + i) ≡ 0 }
-    ensures bytes { (k : ℕ) → slice_index pool.new.bytes k ≡ (if k / 4096 == frame.now
-        then laid_byte (slot_at slots.now page) pool.old.bytes table.now (4096 * page + k % 4096) else slice_index pool.old.bytes k) }
-    ensures given { pool.new.given ≡ pool.old.given }
-    ensures free { pool.new.free ≡ pool.old.free }
+    ensures none { IsNone result ↔ (pool.old.free ≡ 0) }
+    ensures spare { IfSome result (λ f. is_given pool.old f ≡ false) }
+    ensures given { IfSome result (λ f. (g : ℕ) → is_given pool.new g ≡ (if g == f then true else is_given pool.old g)) }
+    ensures bytes { IfSome result (λ f. (k : ℕ) → slice_index pool.new.bytes k ≡ (if k / 4096 == f
+        then laid_byte (slot_at slots.now page) pool.old.bytes table.now (4096 * page + k % 4096) else slice_index pool.old.bytes k)) }
+    ensures free { OnSome result (pool.new.free + 1 ≡ pool.old.free) }
     ensures count { pool.new.count ≡ pool.old.count }
 {
-    if let Some(bytes) = page_below(table, slots, page) {
-        pool.set(frame, 0, bytes);
+    match page_below(table, slots, page) {
+        Some(bytes) => pool.take_copy(bytes),
+        None => pool.take(),
     }
 }
 
@@ -114,8 +126,7 @@ pub(crate) fn lay_frame(table: &PageTable, slots: &mut SlotTable, pool: &mut Poo
     ensures more { result ≡ (if is_written (slot_at slots.old page) then 0 else 1) }
 {
     let more = if was_written(slots, page) { 0 } else { 1 };
-    if let Some(frame) = pool.take() {
-        fill(table, slots, pool, &frame, page);
+    if let Some(frame) = take_filled(table, slots, pool, page) {
         let _ = slots.replace(page, Slot::Framed(frame));
     }
     more

@@ -1,9 +1,11 @@
 -- Frames that are handed out and given back.
-use Rattle.std.proofs.Common.{◌≡◌, ℕ, ◌+◌, ◌-◌, ◌*◌, ◌/◌, ◌<◌, ◌≤◌, ◌==◌, ◌++◌, ◌∷◌, [], Bool, true, false, cond, refl, List, length, get_or, ap, sym, ◌∙◌, arith, length-append, get_or-set_same, get_or-set_other, take, drop, replicate, inl, inr}
+use Rattle.std.proofs.Common.{◌≡◌, ℕ, ◌+◌, ◌-◌, ◌*◌, ◌/◌, ◌%◌, ◌<◌, ◌≤◌, ◌==◌, ◌++◌, ◌∷◌, [], Bool, true, false, cond, refl, List, length, get_or, ap, sym, ◌∙◌, arith, length-append, get_or-set_same, get_or-set_other, take, drop, replicate, inl, inr}
 use Rattle.std.proofs.Math.ListN.{set}
 use Rattle.std.proofs.lemmas.Bool.{cases_eq, cases_order, cases_lt, cond-true, cond-false, eq-eqb, ne_eqb}
 use Rattle.std.proofs.lemmas.List.{get_or_append_left, get_or-append_right, get_or-replicate, get_or_push, get_or_past, get_or-take, get_or-drop, length-take-le, length-drop, length-replicate}
 use Rattle.std.proofs.lemmas.List.Sums.{sum_by-set, sum_by_push, count_by-le-length}
+use Rattle.std.proofs.lemmas.Bool.Decides.{nat_tests}
+use Rattle.frame_pool.specs.Bytes.{is_among, FillsPage, PutsBytes}
 use Rattle.frame_pool.specs.PoolState.{given_count}
 
 pub given_count-le : (given : List Bool) → given_count given ≤ length given
@@ -66,6 +68,47 @@ bytes-push bytes i len k =
             get_or_past (bytes ++ replicate 4096 0) k 0 (omega (arith, length-append bytes (replicate 4096 0), length-replicate {A = ℕ} 4096 0)) ∙ sym (get_or_past bytes k 0 (omega arith))
             ∙ sym (cond-false (k / 4096 == i) 0 (get_or bytes k 0) (ne_eqb (k / 4096) i (λ e. absurd (omega arith))))
       ]
+    ]
+
+-- a frame of other bytes behind the others
+pub bytes-add : (bytes source : List ℕ) (i : ℕ) → length bytes ≡ 4096 * i → length source ≡ 4096 → (k : ℕ) → get_or (bytes ++ source) k 0 ≡ cond (k / 4096 == i) (get_or source (k % 4096) 0) (get_or bytes k 0)
+bytes-add bytes source i len full k =
+    elim (cases_order (k / 4096) i) [
+      | inl e ↦
+          let cell : k - 4096 * i ≡ k % 4096 = omega arith in
+          get_or-append_right bytes source (4096 * i) k 0 len (omega arith)
+          ∙ ap (λ j. get_or source j 0) cell
+          ∙ sym (cond-true (k / 4096 == i) (get_or source (k % 4096) 0) (get_or bytes k 0) (eq-eqb (k / 4096) i e))
+      | inr h ↦ elim h [
+        | inl lt ↦ get_or_append_left bytes source 0 k (omega arith) ∙ sym (cond-false (k / 4096 == i) (get_or source (k % 4096) 0) (get_or bytes k 0) (ne_eqb (k / 4096) i (λ e. absurd (omega arith))))
+        | inr gt ↦
+            get_or_past (bytes ++ source) k 0 (omega (arith, length-append bytes source)) ∙ sym (get_or_past bytes k 0 (omega arith))
+            ∙ sym (cond-false (k / 4096 == i) (get_or source (k % 4096) 0) (get_or bytes k 0) (ne_eqb (k / 4096) i (λ e. absurd (omega arith))))
+      ]
+    ]
+
+whole_frame : (f i : ℕ) → i < 4096 → is_among (4096 * f) 4096 (4096 * f + i) ≡ true
+whole_frame f i lt = grind (arith, nat_tests)
+
+other_frame : (f g i : ℕ) → i < 4096 → (g ≡ f → ⊥) → is_among (4096 * f) 4096 (4096 * g + i) ≡ false
+other_frame f g i lt ne = elim (cases_order g f) [
+  | inl e ↦ absurd (ne e)
+  | inr h ↦ elim h [ inl less ↦ grind (arith, nat_tests) | inr more ↦ grind (arith, nat_tests) ]
+]
+
+-- bytes that are put over a whole frame fill it
+pub fills : (old new source : List ℕ) (f : ℕ) → length source ≡ 4096 → PutsBytes old new (4096 * f) source → FillsPage old new f source
+fills old new source f len puts k =
+    let split : 4096 * (k / 4096) + k % 4096 ≡ k = omega arith in
+    puts k ∙ ap (λ n. cond (is_among (4096 * f) n k) (get_or source (k - 4096 * f) 0) (get_or old k 0)) len
+    ∙ elim (cases_eq (k / 4096) f) [
+      | inl e ↦
+          let among : is_among (4096 * f) 4096 k ≡ true = ap (is_among (4096 * f) 4096) (sym split ∙ ap (λ g. 4096 * g + k % 4096) e) ∙ whole_frame f (k % 4096) (omega arith) in
+          let cell : k - 4096 * f ≡ k % 4096 = omega arith in
+          cond-true _ _ _ among ∙ ap (λ i. get_or source i 0) cell ∙ sym (cond-true (k / 4096 == f) (get_or source (k % 4096) 0) (get_or old k 0) (eq-eqb (k / 4096) f e))
+      | inr ne ↦
+          let among : is_among (4096 * f) 4096 k ≡ false = ap (is_among (4096 * f) 4096) (sym split) ∙ other_frame f (k / 4096) (k % 4096) (omega arith) ne in
+          cond-false _ _ _ among ∙ sym (cond-false (k / 4096 == f) (get_or source (k % 4096) 0) (get_or old k 0) (ne_eqb (k / 4096) f ne))
     ]
 
 pub part_at : (xs : List ℕ) (from n i : ℕ) → i < n → get_or (take (from + n - from) (drop from xs)) i 0 ≡ get_or xs (from + i) 0

@@ -1,5 +1,5 @@
 -- Bytes that are put over others, in a list of all bytes.
-use Rattle.std.specs.Prelude.{◌≡◌, ℕ, ◌+◌, ◌-◌, ◌/◌, ◌==◌, Bool, ◌&&◌, if◌then◌else◌, List, length, nat_le, nat_lt, slice_index}
+use Rattle.std.specs.Prelude.{◌≡◌, ℕ, ◌+◌, ◌-◌, ◌/◌, ◌%◌, ◌==◌, Bool, ◌&&◌, if◌then◌else◌, List, length, nat_le, nat_lt, slice_index}
 
 -- whether q is one of the n numbers from a on
 abbrev pub is_among : ℕ → ℕ → ℕ → Bool
@@ -13,3 +13,7 @@ PutsBytes old new a bytes =
 -- each of the 4,096 bytes of a page is 0, and elsewhere all is as before
 abbrev pub ClearsPage : (old new : List ℕ) (page : ℕ) → Type 0
 ClearsPage old new page = (q : ℕ) → slice_index new q ≡ (if q / 4096 == page then 0 else slice_index old q)
+
+-- the 4,096 bytes of a page are these, and elsewhere all is as before
+abbrev pub FillsPage : (old new : List ℕ) (page : ℕ) (bytes : List ℕ) → Type 0
+FillsPage old new page bytes = (q : ℕ) → slice_index new q ≡ (if q / 4096 == page then slice_index bytes (q % 4096) else slice_index old q)

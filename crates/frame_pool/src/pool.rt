@@ -1,6 +1,6 @@
 // Frames that are handed out and given back.
 ghost use Rattle.std.specs.Prelude.{◌++◌, ◌≡◌, ℕ, ◌+◌, ◌*◌, ◌==◌, ◌^◌, ◌<◌, ◌≤◌, ◌↔◌, true, false, length, replicate, if◌then◌else◌, slice_index, vec_capacity, IfOk, IsNone, IfNone, IfSome, OnSome};
-ghost use Rattle.frame_pool.specs.Bytes.{ClearsPage, PutsBytes};
+ghost use Rattle.frame_pool.specs.Bytes.{ClearsPage, FillsPage, PutsBytes};
 ghost use Rattle.frame_pool.specs.PoolState.{given_count, is_given};
 
 use std::alloc::{AllocError, Global};
@@ -107,6 +107,31 @@ impl Pool {
         Some(Frame { index })
     }
 
+    /// Hands out a frame that holds these 4,096 bytes, with no zeros written before them. None where no frame is free.
+    pub fn take_copy(&mut self, source: &[u8]) -> Option<Frame>
+        requires { length source.now ≡ 4096 }
+        ensures none { IsNone result ↔ (self.old.free ≡ 0) }
+        ensures unchanged { IfNone result (self.new ≡ self.old) }
+        ensures spare { IfSome result (λ f. is_given self.old f ≡ false) }
+        ensures given { IfSome result (λ f. (g : ℕ) → is_given self.new g ≡ (if g == f then true else is_given self.old g)) }
+        ensures bytes { IfSome result (λ f. FillsPage self.old.bytes self.new.bytes f source.now) }
+        ensures free { OnSome result (self.new.free + 1 ≡ self.old.free) }
+        ensures count { self.new.count ≡ self.old.count }
+    {
+        if let Some(index) = self.spare.pop() {
+            self.given[index as usize] = true;
+            fill_frame(&mut self.bytes, index, source);
+            return Some(Frame { index });
+        }
+        let index = self.given.len() as u32;
+        if index < self.count {
+            self.given.push_reserved(true);
+            add_bytes(&mut self.bytes, source);
+            return Some(Frame { index });
+        }
+        None
+    }
+
     /// Takes a frame of this pool back.
     pub fn give(&mut self, frame: Frame)
         requires { is_given self.old frame ≡ true }
@@ -173,6 +198,26 @@ fn add_zeros(bytes: &mut Vec<u8>)
     ensures capacity { vec_capacity bytes.old ≤ vec_capacity bytes.new }
 {
     bytes.resize(bytes.len() + FRAME_SIZE, 0).unwrap();
+}
+
+// Adds a frame of these bytes behind the others.
+fn add_bytes(bytes: &mut Vec<u8>, source: &[u8])
+    requires room { length bytes.old.items + length source.now ≤ vec_capacity bytes.old }
+    ensures items { bytes.new.items ≡ bytes.old.items ++ source.now }
+    ensures capacity { vec_capacity bytes.old ≤ vec_capacity bytes.new }
+{
+    bytes.extend_from_slice(source).unwrap();
+}
+
+// The bytes of a frame are these from now on.
+fn fill_frame(bytes: &mut Vec<u8>, index: u32, source: &[u8])
+    requires frame { 4096 * (index + 1) ≤ length bytes.old.items }
+    requires len { length source.now ≡ 4096 }
+    ensures bytes { FillsPage bytes.old.items bytes.new.items index source.now }
+    ensures len { length bytes.new.items ≡ length bytes.old.items }
+    ensures capacity { vec_capacity bytes.new ≡ vec_capacity bytes.old }
+{
+    put(bytes, FRAME_SIZE * index as usize, source);
 }
 
 // The bytes of a frame are 0 from now on.

@@ -34,6 +34,16 @@ impl PageBytes {
         PageBytes { bytes: page }
     }
 
+    /// A page of these bytes.
+    pub fn of(bytes: &[u8]) -> PageBytes
+        requires { length bytes.now ≡ 4096 }
+        ensures { result ≡ bytes.now }
+    {
+        let mut page = [0; PAGE_SIZE];
+        page.copy_from_slice(bytes);
+        PageBytes { bytes: page }
+    }
+
     /// The bytes of the page.
     #[inline(always)]
     pub fn as_slice(&self) -> &[u8]

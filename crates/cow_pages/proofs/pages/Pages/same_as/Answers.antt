@@ -12,7 +12,7 @@ returns-then-same_listed c =
           (ap (λ v. v.flat_bytes) c.self.view_is) (ap (λ v. v.bytes) c.end.view_is) (ap (λ v. v.origin) c.self.view_is ∙ c.requires.base)
           c.self.invariant.since
           (λ q no. c.requires.end q (sym (ap (λ v. get_or v.changed (q / 4096) false) c.end.view_is) ∙ no))
-          (λ a lt is. sym (ap (λ t. byte_in c.self.inside.slots c.self.inside.pool.bytes t a) c.deref.ensures) ∙ c.if-same_listed.ensures.0 refl a lt is ∙ ap (λ t. table_byte t a) c.deref-2.ensures)
+          (λ a lt is none. sym (ap (λ t. byte_in c.self.inside.slots c.self.inside.pool.bytes t a) c.deref.ensures) ∙ c.if-same_listed.ensures.0 refl a lt is none ∙ ap (λ t. table_byte t a) c.deref-2.ensures)
           (λ a lt is. sym (ap (λ t. byte_in c.self.inside.slots c.self.inside.pool.bytes t a) c.deref-then-same_listed.ensures) ∙ c.same_changed.ensures.0 h a lt is ∙ ap (λ t. table_byte t a) c.deref-then-same_listed-2.ensures),
       λ h. c.same_changed.ensures.1 (λ a lt _.
           ap (λ t. byte_in c.self.inside.slots c.self.inside.pool.bytes t a) c.deref-then-same_listed.ensures
