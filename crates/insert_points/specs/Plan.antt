@@ -1,5 +1,5 @@
 -- What a plan calls at each address, and where it keeps that.
-use Rattle.std.specs.Prelude.{◌≡◌, ℕ, zero, suc, ◌+◌, ◌*◌, ◌/◌, ◌%◌, ◌^◌, ◌<◌, ◌≤◌, ◌==◌, Bool, not, List, [], length, slice_index, slice_index_or, slice_range, None, Some, All, if◌then◌else◌}
+use Rattle.std.specs.Prelude.{◌≡◌, ℕ, zero, suc, ◌+◌, ◌*◌, ◌/◌, ◌%◌, ◌^◌, ◌<◌, ◌≤◌, ◌==◌, Bool, not, List, [], length, slice_index, slice_index_or, slice_range, Option, None, Some, All, if◌then◌else◌}
 use Rattle.insert_points.specs.Events.{Called}
 use Rattle.insert_points.specs.Planned.{plan_calls}
 use Rattle.insert_points.specs.declared.call.Call.{Call}
@@ -7,6 +7,7 @@ use Rattle.insert_points.specs.declared.call.Point.TheVariants.{Before, After, T
 use Rattle.insert_points.specs.declared.call.Thing.{Thing}
 use Rattle.insert_points.specs.declared.call.Thing.TheVariants as things
 use Rattle.insert_points.specs.declared.index.Site.{Site}
+use Rattle.insert_points.specs.declared.plan.Found.{Found}
 use Rattle.insert_points.specs.declared.plan.Placing.{Placing}
 use Rattle.insert_points.specs.declared.plan.Placing.TheVariants as placings
 use Rattle.insert_points.specs.declared.planned.PlannedCall.{PlannedCall}
@@ -140,3 +141,17 @@ pub record FewCalls (called : Called) : Type 0 where
   pub routine : length called.routine ≤ 8
   pub block : length called.block ≤ 8
   pub instruction : length called.before + length called.after + length called.taken ≤ 8
+
+-- calls that were found at an address
+abbrev pub found_calls : Found → Called
+found_calls f = calls_of f.calls.now f.site.now
+
+pub record IsFound (called : Called) (f : Found) : Type 0 where
+  pub calls : called ≡ found_calls f
+  pub site : IsSite (length f.calls.now) f.site.now
+  pub few : FewCalls called
+
+-- what a look for the calls at an address found
+abbrev pub IsFoundAt : PlanFields → ℕ → Option Found → Type 0
+IsFoundAt plan a None = called_at plan a ≡ nothing_called
+IsFoundAt plan a (Some f) = IsFound (called_at plan a) f

@@ -1,5 +1,5 @@
 // Where the calls at an address are found: one look-up in a table of parts, one in a part.
-ghost use Rattle.std.specs.Prelude.{◌≡◌, [], length, ℕ, ◌<◌, ◌≤◌, ◌^◌, ◌==◌, All, OnOk, if◌then◌else◌, slice_index};
+ghost use Rattle.std.specs.Prelude.{◌≡◌, [], length, ℕ, ◌<◌, ◌≤◌, ◌^◌, ◌==◌, All, IfSome, MatchOption, OnOk, if◌then◌else◌, slice_index};
 ghost use Rattle.std.specs.Bool.{OnFalse};
 ghost use Rattle.insert_points.specs.Plan.{IsIndex, IsSite, no_site, part_of, place_of, site_at};
 
@@ -83,6 +83,22 @@ impl Index {
         match self.table.get(part_of(at)) {
             Some(part) if *part > 0 => self.sites[PART * (*part as usize - 1) + place_of(at)],
             _ => NO_SITE,
+        }
+    }
+
+    /// The site of an address, where there is room for it. Nothing is called where there is none.
+    #[inline(always)]
+    pub(crate) fn find(&self, at: u32) -> Option<&Site>
+        requires { IsIndex self.now.table.items self.now.sites.items }
+        ensures site { MatchOption result (site_at self.now.table.items self.now.sites.items at ≡ no_site)
+            (λ site. site.now ≡ site_at self.now.table.items self.now.sites.items at) }
+        ensures sound { (n : ℕ) → All (IsSite n) self.now.sites.items → IfSome result (λ site. IsSite n site.now) }
+    {
+        match self.table.get(part_of(at)) {
+            Some(part) if *part > 0 => {
+                Some(&self.sites[PART * (*part as usize - 1) + place_of(at)])
+            }
+            _ => None,
         }
     }
 

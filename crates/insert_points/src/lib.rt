@@ -12,7 +12,7 @@ mod step_events;
 
 pub use call::{Arg, Args, Call, Event, Point, Thing};
 pub use operands::Operands;
-pub use plan::{CallsAt, Plan};
+pub use plan::{CallsAt, Found, Plan};
 pub use planned::{PlannedCall, Source, Sources};
 pub use rv_isa::StepView;
 pub use step_events::fire;

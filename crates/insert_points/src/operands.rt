@@ -55,6 +55,7 @@ impl Operands {
         }
     }
 
+    #[inline(always)]
     fn read_address(&self) -> u32
         ensures { result ≡ read_address self.now.instr.op self.now }
     {
@@ -64,6 +65,7 @@ impl Operands {
         }
     }
 
+    #[inline(always)]
     fn write_address(&self) -> u32
         ensures { result ≡ write_address self.now.instr.op self.now }
     {
@@ -73,6 +75,7 @@ impl Operands {
         }
     }
 
+    #[inline(always)]
     fn target(&self) -> u32
         ensures { result ≡ target_of self.now.instr.op self.now }
     {
@@ -84,6 +87,7 @@ impl Operands {
     }
 
     /// The value of an argument, with the registers at the call's point.
+    #[inline(always)]
     pub(crate) fn value(&self, arg: Arg, registers: &[u32; 32]) -> u32
         ensures { result ≡ value_of arg self.now registers.now }
     {

@@ -28,6 +28,57 @@ pub struct CallsAt<'a> {
     pub taken: &'a [PlannedCall],
 }
 
+/// Calls that were found at one address; each list of them is looked up as it is asked for.
+#[derive(Clone, Copy)]
+pub struct Found<'a> {
+    pub(crate) calls: &'a [PlannedCall],
+    pub(crate) site: &'a Site,
+}
+
+impl<'a> Found<'a> {
+    ghost use Rattle.std.specs.Prelude.{◌≡◌, ◌+◌, ◌==◌, length, not};
+    ghost use Rattle.insert_points.specs.Plan.{IsSite, found_calls};
+
+    /// At the start of a routine.
+    #[inline(always)]
+    pub fn routine(&self) -> &'a [PlannedCall]
+        requires { IsSite (length self.now.calls.now) self.now.site.now }
+        ensures { result.now ≡ (found_calls self.now).routine }
+    {
+        let start = self.site.routine as usize;
+        &self.calls[start..start + self.site.routine_count as usize]
+    }
+
+    /// At the head of a block, where the state before is fresh.
+    #[inline(always)]
+    pub fn block(&self) -> &'a [PlannedCall]
+        requires { IsSite (length self.now.calls.now) self.now.site.now }
+        ensures { result.now ≡ (found_calls self.now).block }
+    {
+        let start = self.site.block as usize;
+        &self.calls[start..start + self.site.block_count as usize]
+    }
+
+    /// Before the instruction.
+    #[inline(always)]
+    pub fn before(&self) -> &'a [PlannedCall]
+        requires { IsSite (length self.now.calls.now) self.now.site.now }
+        ensures { result.now ≡ (found_calls self.now).before }
+    {
+        let start = self.site.instruction as usize;
+        &self.calls[start..start + self.site.before as usize]
+    }
+
+    /// How many there are after the instruction, on either way.
+    #[inline(always)]
+    pub fn count_late(&self) -> usize
+        requires { IsSite (length self.now.calls.now) self.now.site.now }
+        ensures { result ≡ length (found_calls self.now).after + length (found_calls self.now).taken }
+    {
+        self.site.after as usize + self.site.taken as usize
+    }
+}
+
 /// Which calls of an address are set; those of an instruction are given together, by their points.
 #[derive(Clone, Copy)]
 pub(crate) enum Placing {
@@ -130,7 +181,7 @@ fn site_with(placing: Placing, start: u32, count: u8, site: Site) -> Site
 
 impl Plan {
     ghost use Rattle.std.specs.Prelude.{◌≡◌, ◌≤◌, ◌<◌, ◌+◌, ◌^◌, ℕ, OnErr, OnOk, length};
-    ghost use Rattle.insert_points.specs.Plan.{FewCalls, Fits, called_after, called_at, called_put, is_called, nothing_called};
+    ghost use Rattle.insert_points.specs.Plan.{FewCalls, Fits, IsFoundAt, called_after, called_at, called_put, is_called, nothing_called};
 
     /// A plan that calls nothing. It takes no memory.
     #[tactic(auto, unfolding(crate::specs::Plan::called_at))]
@@ -155,6 +206,21 @@ impl Plan {
         ensures few { FewCalls (called_at self.now pc) }
     {
         calls_of(self.pool.calls.as_slice(), self.index.get(pc))
+    }
+
+    /// What is called at an address, where anything may be.
+    #[inline(always)]
+    #[tactic(auto, unfolding(crate::specs::Plan::called_at))]
+    pub fn find(&self, pc: u32) -> Option<Found<'_>>
+        ensures { IsFoundAt self.now pc result }
+    {
+        match self.index.find(pc) {
+            Some(site) => Some(Found {
+                calls: self.pool.calls.as_slice(),
+                site,
+            }),
+            None => None,
+        }
     }
 
     /// Whether anything is called at an address.

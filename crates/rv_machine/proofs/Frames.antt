@@ -1,13 +1,13 @@
 -- The frames that a step takes.
 use Rattle.std.proofs.Common.{◌≡◌, ℕ, true, [], ◌∷◌, refl, ap, sym, subst}
 use Rattle.std.specs.Prelude.{Option, Some, None}
-use Rattle.std.specs.Option.{option_map, unwrap_or}
+use Rattle.std.specs.Option.{option_and_then, option_map, unwrap_or}
 use Rattle.rv_isa.specs.Decoded.{decoded}
 use Rattle.rv_isa.specs.Kinds.{ends_block, mem_size}
 use Rattle.rv_isa.specs.Table.{Fields}
 use Rattle.guest_model.specs.Areas.{all_permitted}
 use Rattle.guest_model.specs.Effect.{Next, address, effect_by, effect_of, effect_of_instruction, effect_of_word, goes_on, rs2_value, stored_by, stores}
-use Rattle.guest_model.specs.Machine.{Machine, following}
+use Rattle.guest_model.specs.Machine.{Machine, following, instruction_at}
 use Rattle.guest_model.specs.Range.{range}
 use Rattle.guest_model.specs.Space.{Space, read_number, write_number}
 use Rattle.guest_model.specs.declared.Access.TheVariants.{Execute, Write}
@@ -45,6 +45,15 @@ found_by m (Some word) i known = ap (effect_of_instruction m) (ap (λ (o : Optio
 pub effect_found : (m : Machine) (i : Fields) → word_at m.space m.pc ≡ Some (Some i) → effect_of m ≡ effect_by i.op m i
 unfolding effect_of
 effect_found m i known = found_by m (read_number Execute m.space m.pc 4) i known
+
+read_by : (m : Machine) (fetched : Option ℕ) (i : Fields) → option_and_then decoded fetched ≡ Some i → effect_of_word m fetched ≡ effect_by i.op m i
+read_by m None i known = absurd (cc)
+read_by m (Some word) i known = ap (effect_of_instruction m) known
+
+-- the same by the instruction that was read
+pub effect_read : (m : Machine) (i : Fields) → instruction_at m ≡ Some i → effect_of m ≡ effect_by i.op m i
+unfolding effect_of
+effect_read m i known = read_by m (read_number Execute m.space m.pc 4) i known
 
 pub has_for_store : (g : GuestState) (i : Fields) (a n : ℕ) → a ≡ address g.machine i → n ≡ mem_size i.op → HasAllFrames g.frames (stored_by (stores g.machine i))
     → all_permitted Write g.machine.space.areas a n ≡ true → HasAllFrames g.frames (range a n ∷ [])

@@ -1,10 +1,10 @@
 // One step: fetch, decode, carry out.
-ghost use Rattle.std.specs.Prelude.{◌≡◌, ◌<◌, MatchResult, Some};
+ghost use Rattle.std.specs.Prelude.{◌≡◌, ◌<◌, IfSome, MatchResult, Some};
 ghost use Rattle.guest_model.specs.Effect.{Effect, effect_of, effect_by, stored_by, rs1_value, rs2_value};
 ghost use Rattle.guest_model.specs.Effect.{immediate, address, target, machine_at, machine_with};
 ghost use Rattle.guest_model.specs.Effect.{passes, writes, computes, jumps, branches, loads};
 ghost use Rattle.guest_model.specs.Effect.{stores};
-ghost use Rattle.guest_model.specs.Machine.{following};
+ghost use Rattle.guest_model.specs.Machine.{following, instruction_at};
 ghost use Rattle.guest_mem.specs.Code.{word_at};
 ghost use Rattle.guest_mem.specs.Frames.{HasAllFrames};
 ghost use Rattle.rv_isa.specs.Kinds.{mem_size};
@@ -64,6 +64,12 @@ impl End {
     }
 }
 
+// Names the instance of `Guest::carry_out` that `Guest::step` calls.
+pub(crate) struct OneStep;
+
+// Names the instance that the loop of `Guest::run` calls.
+pub(crate) struct InRun;
+
 #[tactic(auto, using(guest_mem::proofs::Ranges::takes_none))]
 impl Guest {
     /// Tries the instruction at pc. Two free frames always suffice.
@@ -79,7 +85,29 @@ impl Guest {
                 Err(kind) => return Stepped::Fault(kind),
             },
         };
-        self.carry_out::<false>(&i)
+        self.carry_out::<OneStep>(&i)
+    }
+
+    /// The instruction at pc, where the memory keeps it decoded. None says nothing of it: then `step` looks it up.
+    #[inline(always)]
+    pub fn kept(&self) -> Option<Instr>
+        ensures { IfSome result (λ i. instruction_at self.now.machine ≡ Some i) }
+    {
+        match self.memory.kept_at(self.pc) {
+            Some(i) => Some(fields_of(i)),
+            None => None,
+        }
+    }
+
+    /// Tries the instruction at pc, which the caller has looked up. `W` is a name that no value has: for each there is an instance
+    /// of its own of what carries an instruction out, and the compiler puts it into its caller where it has only one.
+    #[inline(always)]
+    pub fn step_by<W>(&mut self, i: &Instr) -> Stepped
+        requires at { instruction_at self.old.machine ≡ Some i.now }
+        requires frames { HasAllFrames self.old.frames (stored_by (effect_of self.old.machine)) }
+        ensures { Gives (effect_of self.old.machine) result self.old self.new }
+    {
+        self.carry_out::<W>(i)
     }
 
     /// Makes at most `steps` steps. It stops before a call or a fault, and behind a step after which
@@ -131,7 +159,7 @@ impl Guest {
         match self.memory.kept_at(*pc) {
             Some(i) => {
                 let i = fields_of(i);
-                let stepped = self.carry_out::<true>(&i);
+                let stepped = self.carry_out::<InRun>(&i);
                 if let Stepped::Next = stepped {
                     *pc = self.pc;
                 }
@@ -161,9 +189,9 @@ impl Guest {
     }
 
     // Carries out an instruction. Each operation has an arm of its own, in which what depends on it
-    // alone is settled. A step and the loop of a run have each an instance of this function, which is
-    // put into the one place that calls it.
-    fn carry_out<const IN_RUN: bool>(&mut self, i: &Instr) -> Stepped
+    // alone is settled. `W` names an instance of this function; each is put into the one place that
+    // calls it.
+    fn carry_out<W>(&mut self, i: &Instr) -> Stepped
         requires { HasAllFrames self.old.frames (stored_by (effect_by i.now.op self.old.machine i.now)) }
         ensures { Gives (effect_by i.now.op self.old.machine i.now) result self.old self.new }
     {

@@ -18,7 +18,7 @@ use sp_host::Host;
 use std::alloc::Global;
 use syscall_layer::{RunFault, Served, serve_step};
 use tool_law::Tool;
-use tool_step::{after_call, operands_at, tool_step};
+use tool_step::{after_call, operands_at, tool_step_in};
 
 /// How a step went.
 #[derive(Clone, Copy)]
@@ -86,7 +86,7 @@ pub(crate) fn step<T: Tool, H: Host>(
     ensures count { OnOk result (guest.new.frames.count ≡ guest.old.frames.count) }
 {
     let pc = guest.pc();
-    match tool_step(plan, tool, guest, local) {
+    match tool_step_in::<T, Turn>(plan, tool, guest, local) {
         Ok(Stepped::Next) => Ok(Turn::Next),
         Ok(Stepped::Call) => call(alloc, plan, tool, guest, local, host),
         Ok(Stepped::Fault(kind)) => Ok(Turn::Over(End::Signal { kind, pc })),

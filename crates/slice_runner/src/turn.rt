@@ -15,7 +15,7 @@ use insert_points::Plan;
 use rv_machine::{Guest, Stepped};
 use std::alloc::AllocError;
 use tool_law::Tool;
-use tool_step::{after_call, operands_at, tool_step};
+use tool_step::{after_call, operands_at, tool_step_in};
 
 /// The record for the call at this record position, if one is left of these, of which the first is for `first`.
 pub(crate) fn record_for(records: &[Record], first: u64, calls: u64) -> Option<&Record>
@@ -93,7 +93,7 @@ pub(crate) fn play_turn<T: Tool>(
         (played_item (script_of_job job.now) (spot guest.old.machine calls.old))) ≤ 24 }
     ensures steady { T.GROWS ≡ false → IsOk result }
 {
-    match tool_step(plan, tool, guest, local) {
+    match tool_step_in::<T, Record>(plan, tool, guest, local) {
         Ok(Stepped::Next) => Ok(true),
         Ok(Stepped::Call) => play_call(plan, tool, job, guest, calls, local),
         Ok(Stepped::Fault(_)) => Ok(false),

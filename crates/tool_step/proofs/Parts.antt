@@ -10,12 +10,13 @@ use Rattle.guest_model.specs.Machine.{Machine, instruction_at}
 use Rattle.guest_model.specs.Serial.{item_of, item_with}
 use Rattle.insert_points.specs.Arguments.{jumps}
 use Rattle.insert_points.specs.Events.{Called, events_of, late_events, operands_of}
-use Rattle.insert_points.specs.Plan.{FewCalls, PlanFields, called_at, is_called}
+use Rattle.insert_points.specs.Plan.{FewCalls, IsFound, IsFoundAt, PlanFields, called_at, found_calls, is_called, nothing_called}
 use Rattle.insert_points.specs.declared.call.Event.{Event}
 use Rattle.insert_points.specs.declared.operands.Operands.{Operands}
 use Rattle.insert_points.specs.declared.plan.CallsAt.{CallsAt}
+use Rattle.insert_points.specs.declared.plan.Found.{Found}
 use Rattle.insert_points.specs.declared.planned.PlannedCall.{PlannedCall}
-use Rattle.tool_step.specs.Steps.{AreCalls, count_given, events_after, events_by, item_events, operands_of_machine, step_events, events_behind}
+use Rattle.tool_step.specs.Steps.{AreCalls, LacksLate, count_given, events_after, events_by, item_events, operands_of_machine, step_events, events_behind}
 
 -- the events before an instruction
 abbrev pub early_by : Called → Operands → List ℕ → Bool → List Event
@@ -30,7 +31,7 @@ all_by plan m c o =
     ++ (events_by o m.registers (called_at plan o.pc).before
     ++ late_events (called_at plan o.pc) o c))
 
-abbrev operands_with : Machine → Fields → Operands
+abbrev pub operands_with : Machine → Fields → Operands
 operands_with m i = operands_of (record { before = m; instruction = i; completion = None })
 
 step_is : (plan : PlanFields) (m : Machine) (c : Option Machine) (o : Operands) → operands_of_machine m ≡ Some o → step_events plan m c ≡ all_by plan m c o
@@ -113,6 +114,20 @@ none_stands plan m c is = go (instruction_at m) is
 no_calls : (n : ℕ) → not (n == 0) ≡ false → n ≡ 0
 no_calls n e = grind arith
 
+-- where nothing is called behind an instruction, the events are those before it
+plain_by : (plan : PlanFields) (m : Machine) (c : Option Machine) (o : Operands) → operands_of_machine m ≡ Some o → LacksLate (called_at plan o.pc) → step_events plan m c ≡ early_by (called_at plan o.pc) o m.registers m.fresh
+plain_by plan m c o is lacks =
+    let called = called_at plan o.pc in
+    let block : List Event = if m.fresh then events_by o m.registers called.block else [] in
+    let before = events_by o m.registers called.before in
+    let none : late_events called o c ≡ [] = nil_from_length (late_events called o c) (omega (arith, late_le called o c, lacks)) in
+    step_is plan m c o is ∙ ap (λ (es : List Event). events_by o m.registers called.routine ++ (block ++ es)) (ap (λ (es : List Event). before ++ es) none ∙ append-nil before)
+
+pub plain_found : (plan : PlanFields) (m : Machine) (c : Option Machine) (o : Operands) (f : Found) → operands_of_machine m ≡ Some o → IsFound (called_at plan m.pc) f → LacksLate (found_calls f) → step_events plan m c ≡ early_by (found_calls f) o m.registers m.fresh
+plain_found plan m c o f is found lacks =
+    let same : called_at plan o.pc ≡ found_calls f = ap (called_at plan) (pc_is m o is) ∙ found.calls in
+    plain_by plan m c o is (subst LacksLate (sym same) lacks) ∙ ap (λ (called : Called). early_by called o m.registers m.fresh) same
+
 -- and none where nothing is called
 pub none_called : (plan : PlanFields) (m : Machine) (c : Option Machine) → is_called (called_at plan m.pc) ≡ false → step_events plan m c ≡ []
 none_called plan m c h = go (operands_of_machine m) refl
@@ -161,3 +176,15 @@ no_count n k same none = grind (arith, nat_tests)
 pub none_given : (plan : PlanFields) (pc a : ℕ) (given : CallsAt) → a ≡ pc → given.routine.now ≡ (called_at plan a).routine → given.block.now ≡ (called_at plan a).block → given.before.now ≡ (called_at plan a).before
     → given.after.now ≡ (called_at plan a).after → given.taken.now ≡ (called_at plan a).taken → (count_given given == 0) ≡ true → is_called (called_at plan pc) ≡ false
 none_given plan pc a given same r k f n t none = no_count (count_given given) (count_of (called_at plan pc)) (counts given (called_at plan pc) (calls_given plan a pc given same r k f n t)) none
+
+-- none where nothing was found
+pub none_found : (plan : PlanFields) (m : Machine) (c : Option Machine) → called_at plan m.pc ≡ nothing_called → step_events plan m c ≡ []
+none_found plan m c none = none_called plan m c (ap is_called none)
+
+pub few_found : (plan : PlanFields) (m : Machine) (c : Option Machine) (found : Option Found) → IsFoundAt plan m.pc found → length (step_events plan m c) ≤ 24
+few_found plan m c None none = omega (arith, ap length (none_found plan m c none))
+few_found plan m c (Some f) found = go (operands_of_machine m) refl
+  where
+    go : (o : Option Operands) → operands_of_machine m ≡ o → length (step_events plan m c) ≤ 24
+    go None e = omega (arith, ap length (none_stands plan m c e))
+    go (Some o) e = few_events plan m c o e (subst (λ (a : ℕ). FewCalls (called_at plan a)) (sym (pc_is m o e)) found.few)

@@ -65,3 +65,7 @@ count_given given =
 -- the events of calls, with the registers at their point
 abbrev pub events_by : Operands → List ℕ → List PlannedCall → List Event
 events_by o registers calls = map (event_of o registers) calls
+
+-- nothing is called behind an instruction
+abbrev pub LacksLate : Called → Type 0
+LacksLate called = length called.after + length called.taken ≡ 0

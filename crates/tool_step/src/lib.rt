@@ -5,4 +5,4 @@ mod give;
 pub mod laws;
 mod step;
 
-pub use step::{after_call, operands_at, tool_step};
+pub use step::{after_call, operands_at, tool_step, tool_step_in};

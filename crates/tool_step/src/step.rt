@@ -7,7 +7,7 @@ ghost use Rattle.insert_points.specs.Plan.{called_at};
 ghost use Rattle.rv_machine.specs.Step.{Gives};
 ghost use Rattle.tool_step.specs.Steps.{AreCalls, TakesEvents, completion_of, events_behind, operands_of_machine, step_events};
 
-use crate::give::{give_early, give_late, is_nothing};
+use crate::give::{give_early, give_late, gives_plain, is_nothing};
 use insert_points::{CallsAt, Operands, Plan};
 use rv_machine::{Guest, Stepped};
 use std::alloc::AllocError;
@@ -29,7 +29,7 @@ pub fn operands_at(guest: &Guest) -> Option<Operands>
 
 /// Tries the instruction at pc, and gives the step's events to the tool: those before the instruction before it is tried, and
 /// those behind it once it completed. Behind a call, once it is done, they are given by `after_call`.
-#[inline(always)]
+#[inline(never)]
 pub fn tool_step<T: Tool>(
     plan: &Plan,
     tool: &T,
@@ -53,6 +53,36 @@ pub fn tool_step<T: Tool>(
     match operands_at(guest) {
         None => Ok(guest.step()),
         Some(operands) => called_step(plan, tool, &called, &operands, guest, local),
+    }
+}
+
+/// The same as `tool_step`, put into the place that calls it, which should be the only one with this `W` (`Guest::step_by`): where
+/// the memory keeps the instruction decoded and nothing is called behind it, all is done there.
+#[inline(always)]
+pub fn tool_step_in<T: Tool, W>(
+    plan: &Plan,
+    tool: &T,
+    guest: &mut Guest,
+    local: &mut T::Local,
+) -> Result<Stepped, AllocError>
+    requires { HasAllFrames guest.old.frames (stored_by (effect_of guest.old.machine)) }
+    ensures step { IfOk result
+        (λ stepped. Gives (effect_of guest.old.machine) stepped guest.old guest.new) }
+    ensures events { IfOk result (λ stepped. TakesEvents (T.is_local tool.now)
+        (step_events plan.now guest.old.machine (completion_of stepped guest.new.machine))
+        local.old local.new) }
+    ensures few { (completion : Option Machine)
+        → length (step_events plan.now guest.old.machine completion) ≤ 24 }
+    ensures steady { T.GROWS ≡ false → IsOk result }
+{
+    match guest.kept() {
+        None => tool_step(plan, tool, guest, local),
+        Some(i) => {
+            if !gives_plain(plan, tool, &i, guest, local)? {
+                return tool_step(plan, tool, guest, local);
+            }
+            Ok(guest.step_by::<(T, W)>(&i))
+        }
     }
 }
 
