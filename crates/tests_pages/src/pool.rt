@@ -17,3 +17,20 @@ fn hands_out_two_frames(rt: HostRuntime) -> Result<(), Fail> {
     assert!(rt; pool.free() == 2);
     Ok(())
 }
+
+#[test]
+fn takes_copies(rt: HostRuntime) -> Result<(), Fail> {
+    let mut page = [5; 4096];
+    page[0] = 1;
+    page[4095] = 9;
+    let mut pool = Pool::new(rt.alloc(), 2)?;
+    let first = pool.take_copy(&[3; 4096]).expect(&rt, "a new frame");
+    let second = pool.take_copy(&page).expect(&rt, "a second frame");
+    assert!(rt; pool.take_copy(&page).is_none() && pool.free() == 0);
+    assert!(rt; pool.bytes(&first) == [3; 4096].as_slice());
+    assert!(rt; pool.bytes(&second) == page.as_slice());
+    pool.give(first);
+    let again = pool.take_copy(&page).expect(&rt, "the frame that was given back");
+    assert!(rt; pool.bytes(&again) == page.as_slice());
+    Ok(())
+}

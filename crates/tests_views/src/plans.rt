@@ -150,3 +150,16 @@ fn calls_made_ready(rt: HostRuntime) -> Result<(), Fail> {
     assert!(rt; plan.is_called(0x1007c) && !plan.is_called(0x1007d) && !plan.is_called(0x10080));
     Ok(())
 }
+
+#[test]
+fn calls_found(rt: HostRuntime) -> Result<(), Fail> {
+    let lw = decode(0xffc32283).ok_or("no row")?;
+    let plan = kinds(rt.alloc(), lw)?;
+    let found = plan.find(0x1007c).ok_or("nothing")?;
+    assert!(rt; found.routine().len() == 1 && found.block().len() == 1);
+    assert!(rt; found.before().len() == 1 && found.count_late() == 1);
+    let next = plan.find(0x10080).ok_or("no room")?;
+    assert!(rt; next.before().is_empty() && next.count_late() == 0);
+    assert!(rt; plan.find(0x40000000).is_none());
+    Ok(())
+}
