@@ -34,7 +34,7 @@ TABLES = {
 
 NAME = r"[A-Za-z_][\w'?]*"
 USE = re.compile(r"^\s*(?:pub |ghost )?use ([\w.]+?)(?:\.\{([^}]*)\})?(?: as (\w+))?;?$", re.M)
-DEFINITION = re.compile(rf"(?:(?:abbrev|unfoldable)(?: pub)?|(?:pub )?(?:data|record)) ({NAME})")
+DEFINITION = re.compile(r"(?:(?:abbrev|unfoldable)(?: pub)?|(?:pub )?(?:data|record)) (\S+)")
 CONSTRUCTOR = re.compile(rf"({NAME})\s*:")
 
 
@@ -77,6 +77,8 @@ class Specs:
                 heads.append((indent, rest))
             elif begins:
                 name = begins.group(1)
+                if not re.fullmatch(NAME, name):
+                    sys.exit(f"{path}: the walk cannot read the name {name}")
                 is_data = "data " in begins.group(0)
                 self.owners[name] = name
                 self.texts[name] = " ".join([head[1] for head in heads] + [rest])
