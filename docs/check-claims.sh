@@ -7,7 +7,8 @@
 # modules or the type where the call stands, if any, the call, and the names of clauses of its contract. In place of names
 # there may be `ensures`, for a contract with one clause that has no name, and behind a type `invariant`, for the type's own.
 # The sources are read as `rt fmt` lays them out. The script reads and proves nothing: it shows that the names are there. It
-# prints each that is not, and ends with the numbers of both. It is no part of the gate.
+# prints each that is not, and the numbers of both. Then it has `what-to-believe.py` compare the files that a reader must
+# believe with those that the page lists. It is no part of the gate.
 set -eu
 export LC_ALL=C
 
@@ -53,6 +54,7 @@ find "$top/crates" -path '*/src/*.rt' -type f | while read -r file; do
     ' "$file"
 done >"$folder/clauses"
 
+status=0
 awk -F '\t' '
     # Tells whether the head of an impl or a trait names the type, where a type is wanted.
     function is_of(head, type) { return type == "" || head ~ ("(^|[^A-Za-z0-9_])" type "($|[^A-Za-z0-9_])") }
@@ -90,4 +92,7 @@ awk -F '\t' '
         printf "%d passed, %d failed\n", passed, failed
         exit failed > 0
     }
-' "$folder/clauses" "$claims"
+' "$folder/clauses" "$claims" || status=1
+
+"$top/docs/what-to-believe.py" "$claims" >/dev/null || status=1
+exit $status
