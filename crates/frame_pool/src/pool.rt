@@ -9,7 +9,8 @@ use std::marker::Model;
 /// The bytes in a frame.
 const FRAME_SIZE: usize = 4096;
 
-/// A frame of 4,096 bytes that a pool handed out. Contracts see its number in the pool.
+/// A frame of 4,096 bytes that a pool handed out. Contracts see its number in the pool, and no more: a frame of another pool with the
+/// same number, where that one is handed out, is taken for it.
 #[derive(Drop)]
 pub struct Frame {
     index: u32,

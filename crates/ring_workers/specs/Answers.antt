@@ -13,6 +13,6 @@ Answers {T} {J} {P} job piece ring pre post =
 abbrev pub IsSameBut : {T : Type 0} → ℕ → SeatView T → SeatView T → Type 0
 IsSameBut n old new = new ≡ with_view old (record old.view { retired = old.view.retired + n })
 
--- the last word that the seat looked at was the closing word, and it was that of a closed ring
+-- the last word that the seat looked at was the closing word, and it was 1, that of a closed ring
 abbrev pub HasSeenClose : {T : Type 0} → SeatView T → Type 0
-HasSeenClose seat = seat.view.glance ≡ Some (record { word = 1; look = seat.view.looks })
+HasSeenClose seat = seat.view.glance ≡ Some (record { place = 0; word = 1; look = seat.view.looks })

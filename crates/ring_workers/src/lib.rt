@@ -81,7 +81,8 @@ pub fn work_all<
 }
 
 /// Calls the lead's part once, while each seat answers jobs in a thread of its own. The lead's part is to close the
-/// ring. A thread that cannot be started does its work after the lead's part, when the ring is closed.
+/// ring: the workers wait for that, and this call for them. A thread that cannot be started does its work after the lead's part,
+/// when the ring is closed.
 pub fn run_beside<
     'a,
     'b,

@@ -198,9 +198,9 @@ module _ {J R T : Type 0} (job : J → Ticket T) (piece : R → Ticket T) (slots
       )
 
   pub merges_move : (s s' : St) → Rule s → Rule s' → (place : ℕ) (v : V) → get_elem? s.views place ≡ some v → v.role ≡ Leads → get_or s.words (3 * (v.lead.merged % slots) + 1) 0 ≡ 4 * v.lead.merged + 3
-      → HasStepped (3 * (v.lead.merged % slots) + 1) (4 * v.lead.merged + 3) place (merges v) s s' → MakesMove slots s Merge s'
+      → HasStepped (3 * (v.lead.merged % slots) + 1) (4 * v.lead.merged + 3) place (merges (3 * (v.lead.merged % slots) + 1) v) s s' → MakesMove slots s Merge s'
   merges_move s s' r r' place v at leads word moved =
-      let w : V = merges v in let l = leads_after s r s' r' place v w at leads moved.1 in
+      let w : V = merges (3 * (v.lead.merged % slots) + 1) v in let l = leads_after s r s' r' place v w at leads moved.1 in
       let ok' = subst (λ (u : V). LeadHolds job piece slots topic u.lead s'.words) l.1 r'.lead_holds in
       let m : ℕ = v.lead.merged in let p : ℕ = length v.lead.tags in let i : ℕ = m % slots in let out : m + 1 ≤ p = ok'.behind in
       let views' : List V = set s.views place w in let words' : List ℕ = set s.words (3 * i + 1) (4 * m + 3) in

@@ -249,7 +249,7 @@ module _ {J R T : Type 0} (job : J → Ticket T) (piece : R → Ticket T) (slots
       subst (λ (z : V × ℕ). InPhase job piece slots topic z.0.lead s.homes s.views i z.1 x (tag_of s.words i) (r.cells i).1) (λ z. (one.1 z, got.0 z)) ok.phase in
       let lok = subst (λ (u : V). LeadHolds job piece slots topic u.lead s.words) one.1 r.lead_holds in
       subst (λ (z : ℕ). Goes job piece slots topic s z id me (collected piece (step n z 0 0 none) me (get_or s.words z 0)) (get_or s.words z 0)) (sym is) (dite (ℕ_discrete x (4 * m + 3))
-      (λ hit. let dn = is_done v.lead s.homes s.views i m x (tag_of s.words i) hit out (r.cells i).1 phase in let y : R = dn.1.2.0 in let w : V = merges v in
+      (λ hit. let dn = is_done v.lead s.homes s.views i m x (tag_of s.words i) hit out (r.cells i).1 phase in let y : R = dn.1.2.0 in let w : V = merges (3 * i + 1) v in
       let long : length s.words ≡ 3 * slots + 1 = r.wide in let homes : length s.homes ≡ slots = r.long in let within : p ≤ m + slots = lok.within in
       let words' : List ℕ = set s.words (3 * i + 1) x in let word : word_of words' i ≡ x = get_or-set_same s.words (3 * i + 1) x 0 (omega arith) in let same = tag_same s.words i x (p % slots) in (
         w,
@@ -287,7 +287,7 @@ module _ {J R T : Type 0} (job : J → Ticket T) (piece : R → Ticket T) (slots
           λ miss. absurd (miss hit),
         ),
       ))
-      (λ miss. let w : V = glances x v in (
+      (λ miss. let w : V = glances (3 * i + 1) x v in (
         w,
         keeps,
         tt,

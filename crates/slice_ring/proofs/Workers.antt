@@ -208,7 +208,7 @@ module _ {J R T : Type 0} (job : J → Ticket T) (piece : R → Ticket T) (slots
             let top' : topic ≡ top = ⊎_elim (λ u. some_same topic top (sym u ∙ c)) (λ u. absurd (no_less 1 2 (ap rank (sym works ∙ u)) (omega arith))) seat.told in
             ((λ _. ((λ z. takes_job (count z) (t' z) me.0), subst (λ (z : ℕ × ℕ). m % z.0 ≡ z.1) (λ z. ((sym r.long ∙ wide) z, same z)) (ap (λ (z : ℕ). z % slots) (sym count) ∙ ap (λ (z : ℕ). z % slots) (sym (ready_slot s r i q near here).0) ∙ (r.each_slot i near).lies), (got.0, (λ z. (same z, Some (Job got.0)) ∷ me.1), got.2 ∙ (λ z. record { number = count z; tag = t' z; topic = top' z })))), λ miss. absurd (miss hit)),
       ))
-      (λ miss. relooks s r (3 * i + 1) id me (claimed job (step n (3 * i + 1) old new none) me y) i (record l { lost = Some (record { word = y; look = me.0.looks + 1 }) }) at works
+      (λ miss. relooks s r (3 * i + 1) id me (claimed job (step n (3 * i + 1) old new none) me y) i (record l { lost = Some (record { place = 3 * i + 1; word = y; look = me.0.looks + 1 }) }) at works
       record { published = ok.published; first = ok.first; second = ok.second }
       (λ j m t top e f a b c. let same : i ≡ j = omega arith in ((λ hit. absurd (miss hit)), λ _ z. (loses (same z) y me.0, me.1)))))
 
@@ -248,7 +248,7 @@ module _ {J R T : Type 0} (job : J → Ticket T) (piece : R → Ticket T) (slots
         refl,
       )
 
-  -- a load of the closing word
-  pub glances_allowed : (n id : ℕ) (me : M) → me.0.role ≡ Works → Allows Rule n id me 0 (λ x. x) (glanced (step n 0 0 0 none) me)
-  glances_allowed n id me works s r wide at _ = let x : ℕ = get_or s.words 0 0 in let w : V = glances x me.0 in let old = r.each_seat id me.0 at in
-      (w, keeps, tt, unmoved job piece slots topic s r 0 id me.1 me.0 w r.leader at (leader_stays s r id me.0 w at works) r.leads refl (λ n tag h. h) record { told = old.told; leads = old.leads; holds = old.holds; each_look = old.each_look }, refl)
+  -- a load of a word, whichever it is
+  pub glances_allowed : (n id : ℕ) (me : M) (k : ℕ) → me.0.role ≡ Works → Allows Rule n id me k (λ x. x) (glanced (step n k 0 0 none) me)
+  glances_allowed n id me k works s r wide at _ = let x : ℕ = get_or s.words k 0 in let w : V = glances k x me.0 in let old = r.each_seat id me.0 at in
+      (w, keeps, tt, unmoved job piece slots topic s r k id me.1 me.0 w r.leader at (leader_stays s r id me.0 w at works) r.leads refl (λ n tag h. h) record { told = old.told; leads = old.leads; holds = old.holds; each_look = old.each_look }, refl)

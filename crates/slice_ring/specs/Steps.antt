@@ -59,7 +59,7 @@ module _ {T : Type 0} where
 
   -- a lost exchange, which found another word
   abbrev pub loses : ℕ → ℕ → View T → View T
-  loses i found v = relooked i (record (look_at i v) { lost = Some (record { word = found; look = v.looks + 1 }) }) v
+  loses i found v = relooked i (record (look_at i v) { lost = Some (record { place = 3 * i + 1; word = found; look = v.looks + 1 }) }) v
 
   -- a won exchange
   abbrev pub takes_job : ℕ → Tag → View T → View T
@@ -69,9 +69,9 @@ module _ {T : Type 0} where
   abbrev pub finishes : View T → View T
   finishes v = record v { work = record { held = None; kept = v.work.kept } }
 
-  -- a load of which the word is kept: the next slot's by a lead, the closing word by a worker
-  abbrev pub glances : ℕ → View T → View T
-  glances found v = record v { looks = v.looks + 1; glance = Some (record { word = found; look = v.looks + 1 }) }
+  -- a load that is kept, with the place of the word: the next slot's by a lead, the closing word by a worker
+  abbrev pub glances : (place found : ℕ) → View T → View T
+  glances place found v = record v { looks = v.looks + 1; glance = Some (record { place = place; word = found; look = v.looks + 1 }) }
 
   -- in `create`, the lead's load that gives it a slot's turn
   abbrev pub opens : View T → View T
@@ -87,9 +87,9 @@ module _ {T : Type 0} where
   abbrev pub publishes : Tag → View T → View T
   publishes tag v = record v { lead = record v.lead { tags = v.lead.tags ++ tag ∷ []; first = None; second = None } }
 
-  -- the load that finds the next slot done
-  abbrev pub merges : View T → View T
-  merges v = record (glances (4 * v.lead.merged + 3) v) { lead = record v.lead { merged = v.lead.merged + 1 } }
+  -- the load that finds the next slot done, with the place of its word
+  abbrev pub merges : (place : ℕ) → View T → View T
+  merges place v = record (glances place (4 * v.lead.merged + 3) v) { lead = record v.lead { merged = v.lead.merged + 1 } }
 
   -- the store to the closing word
   abbrev pub closes : View T → View T
@@ -126,7 +126,7 @@ module _ {J R T : Type 0} where
   finished st m stored m' = m' ≡ (finishes m.0, rest m.1)
 
   abbrev pub glanced : Then J R T
-  glanced st m found m' = m' ≡ (glances found m.0, m.1)
+  glanced st m found m' = m' ≡ (glances st.word found m.0, m.1)
 
   -- the lead gets the turn of a slot that was empty
   abbrev pub opened : Then J R T
@@ -145,10 +145,10 @@ module _ {J R T : Type 0} where
   -- Where the word was that of the next number, done, the lead has the slot's turn and the piece that lies there: with that number, its tag, and the topic.
   abbrev pub collected : (R → Ticket T) → Then J R T
   collected piece st m found m' = (i : ℕ) (topic : T) → st.word ≡ 3 * i + 1 → m.0.topic ≡ Some topic
-      → (found ≡ 4 * m.0.lead.merged + 3 → (m'.0 ≡ merges m.0)
+      → (found ≡ 4 * m.0.lead.merged + 3 → (m'.0 ≡ merges st.word m.0)
       × ((y : R) × (tag : Tag) × (m'.1 ≡ (i, Some (Piece y)) ∷ m.1) × (get_elem? m.0.lead.tags m.0.lead.merged ≡ some tag)
       × (piece y ≡ record { number = m.0.lead.merged; tag = tag; topic = topic })))
-      × (found ≢ 4 * m.0.lead.merged + 3 → m' ≡ (glances found m.0, m.1))
+      × (found ≢ 4 * m.0.lead.merged + 3 → m' ≡ (glances st.word found m.0, m.1))
 
   abbrev pub closed : Then J R T
   closed st m stored m' = m' ≡ (closes m.0, m.1)

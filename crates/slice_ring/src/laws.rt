@@ -64,7 +64,7 @@ pub fn steps_are_moves<J: Numbered, R: Numbered<Topic = J::Topic>>()
         → RingHolds J.ticket R.ticket slots topic s → RingHolds J.ticket R.ticket slots topic s'
         → (place : ℕ) (v : View J.Topic) → get_elem? s.views place ≡ some v → v.role ≡ Leads
         → slice_index s.words (3 * (v.lead.merged % slots) + 1) ≡ 4 * v.lead.merged + 3
-        → HasStepped (3 * (v.lead.merged % slots) + 1) (4 * v.lead.merged + 3) place (merges v) s s'
+        → HasStepped (3 * (v.lead.merged % slots) + 1) (4 * v.lead.merged + 3) place (merges (3 * (v.lead.merged % slots) + 1) v) s s'
         → MakesMove slots s Merge s' }
     ensures close { (slots : ℕ) (topic : J.Topic)
         (s s' : State (Option (Content J R)) (View J.Topic))

@@ -93,10 +93,10 @@ impl<J: Numbered + Drop, R: Numbered<Topic = J::Topic> + Drop> SlotTable<J, R> {
         requires slot { (i ≡ lead.old.me.0.lead.merged % self.now.slots) × (i < self.now.slots) }
         ensures same { IsSame lead.old lead.new }
         ensures done { result ≡ 4 * lead.old.me.0.lead.merged + 3
-            → (y : R) × (lead.new.me ≡ (merges lead.old.me.0, (i, Some (Piece y)) ∷ lead.old.me.1))
+            → (y : R) × (lead.new.me ≡ (merges (3 * i + 1) lead.old.me.0, (i, Some (Piece y)) ∷ lead.old.me.1))
             × IsAnswer lead.old.me.0 self.now.table.shared.key.topic.value (R.ticket y) }
         ensures other { result ≢ 4 * lead.old.me.0.lead.merged + 3
-            → lead.new.me ≡ (glances result lead.old.me.0, lead.old.me.1) }
+            → lead.new.me ≡ (glances (3 * i + 1) result lead.old.me.0, lead.old.me.1) }
     {
         self.table.shared.load::<Collect>(lead, 3 * i + 1)
     }
@@ -111,10 +111,11 @@ impl<J: Numbered + Drop, R: Numbered<Topic = J::Topic> + Drop> SlotTable<J, R> {
             × (length lead.old.me.0.lead.tags ≤ merged + self.now.slots) }
         ensures same { IsSame lead.old lead.new }
         ensures leads { IsLeading self.now.slots lead.new.me }
-        ensures some { IfSome result (λ y. (lead.new.me.0 ≡ merges lead.old.me.0)
+        ensures some { IfSome result (λ y. (lead.new.me.0
+            ≡ merges (3 * (merged % self.now.slots) + 1) lead.old.me.0)
             × IsAnswer lead.old.me.0 self.now.table.shared.key.topic.value (R.ticket y)) }
         ensures none { IfNone result ((word : ℕ) × (word ≢ 4 * merged + 3)
-            × (lead.new.me.0 ≡ glances word lead.old.me.0)) }
+            × (lead.new.me.0 ≡ glances (3 * (merged % self.now.slots) + 1) word lead.old.me.0)) }
     {
         let i = (merged % self.slots as u64) as usize;
         if self.load_done(lead, i) != 4 * merged + 3 {

@@ -34,10 +34,10 @@ impl<J, R, T> Play<Option<Content<J, R>>, View<T>> for Finish {
     ghost then = { finished };
 }
 
-// A load of the closing word.
-pub(crate) struct SeeClosing;
+// A load that is kept with the word's place.
+pub(crate) struct Glimpse;
 
-impl<J, R, T> Play<Option<Content<J, R>>, View<T>> for SeeClosing {
+impl<J, R, T> Play<Option<Content<J, R>>, View<T>> for Glimpse {
     ghost then = { glanced };
 }
 

@@ -1,5 +1,5 @@
 // The ring.
-ghost use Rattle.std.specs.Prelude.{◌≡◌, ◌≢◌, ℕ, ◌+◌, ◌*◌, ◌^◌, ◌<◌, ◌≤◌, ◌==◌, length, All, IfOk, IfSome, IfNone};
+ghost use Rattle.std.specs.Prelude.{◌≡◌, ◌≢◌, ℕ, ◌+◌, ◌*◌, ◌%◌, ◌^◌, ◌<◌, ◌≤◌, ◌==◌, length, All, IfOk, IfSome, IfNone};
 ghost use Rattle.slice_ring.specs.Seats.{slots_of, with_view, IsOf, IsIdle, IsFresh, IsOpen, HoldsNone, HoldsJob, published_by, merged_by, WasReady, WasMissed, IsAnswer};
 ghost use Rattle.slice_ring.specs.Steps.{look_at, publishes, finishes, merges, glances, closes, takes_back};
 
@@ -141,10 +141,12 @@ impl<J: Numbered + Send + Drop, R: Numbered<Topic = J::Topic> + Send + Drop> Rin
     pub fn collect(&self, lead: &mut LeadSeat<J, R>) -> Option<R>
         requires of_ring { IsOf self.now lead.old }
         requires out { merged_by lead.old < published_by lead.old }
-        ensures some { IfSome result (λ piece. (lead.new ≡ with_view lead.old (merges lead.old.view))
+        ensures some { IfSome result (λ piece. (lead.new ≡ with_view lead.old
+            (merges (3 * (merged_by lead.old % slots_of self.now) + 1) lead.old.view))
             × IsAnswer lead.old.view self.now.topic (R.ticket piece)) }
         ensures none { IfNone result ((word : ℕ) × (word ≢ 4 * merged_by lead.old + 3)
-            × (lead.new ≡ with_view lead.old (glances word lead.old.view))) }
+            × (lead.new ≡ with_view lead.old
+            (glances (3 * (merged_by lead.old % slots_of self.now) + 1) word lead.old.view))) }
     {
         let piece = self.slot_table.collect(&mut lead.seat, lead.merged)?;
         lead.merged += 1;
@@ -164,7 +166,7 @@ impl<J: Numbered + Send + Drop, R: Numbered<Topic = J::Topic> + Send + Drop> Rin
     /// Whether the closing word, loaded in this call, was 1.
     pub fn is_closed(&self, seat: &mut WorkSeat<J, R>) -> bool
         requires { IsOf self.now seat.old }
-        ensures { (word : ℕ) × (seat.new ≡ with_view seat.old (glances word seat.old.view))
+        ensures { (word : ℕ) × (seat.new ≡ with_view seat.old (glances 0 word seat.old.view))
             × (result ≡ (word == 1)) }
     {
         self.slot_table.is_closed(&mut seat.seat)

@@ -6,7 +6,9 @@ use crate::table::TableSeat;
 use crate::views::Numbered;
 use std::marker::Model;
 
-/// A worker's seat. It has no bytes, and can be moved to another thread. Contracts see it as a `SeatView`.
+/// A worker's seat. It has no bytes, and can be moved to another thread. Contracts see it as a `SeatView`. The slot of the job
+/// that a seat holds stays taken until the seat deposits the piece: where the seat is dropped first, that slice is never
+/// done, and the lead waits for it in vain.
 #[derive(Drop)]
 pub struct WorkSeat<J: Numbered + Send + Drop, R: Numbered<Topic = J::Topic> + Send + Drop> {
     pub(crate) seat: TableSeat<J, R>,
@@ -23,7 +25,8 @@ impl<J: Numbered + Send + Drop, R: Numbered<Topic = J::Topic> + Send + Drop> Mod
     ghost invariant = { λ w. IsWorking w.seat.table_id.slots w.seat.me };
 }
 
-/// The lead's seat, which counts what it published and merged. Contracts see it as a `SeatView`.
+/// The lead's seat, which counts what it published and merged. Contracts see it as a `SeatView`. Where it is dropped before it
+/// closed the ring, the ring stays open, and workers look for jobs in vain.
 #[derive(Drop)]
 pub struct LeadSeat<J: Numbered + Send + Drop, R: Numbered<Topic = J::Topic> + Send + Drop> {
     pub(crate) seat: TableSeat<J, R>,

@@ -30,8 +30,10 @@ pub enum Content<J, R> {
 
 // The types below are for proofs alone: no value of them is made.
 
-/// A word that was looked at, and the seat's count of looks then.
+/// A look at a word: the word's place among all of the ring, where the closing word has the place 0 and slot i the place
+/// 3 i + 1; what was found there; and the seat's count of looks then.
 pub struct Glance {
+    pub place: usize,
     pub word: u64,
     pub look: u64,
 }
@@ -71,7 +73,7 @@ pub struct Work {
 }
 
 /// What a seat knows. `looks` counts its loads and exchanges, and `retired` the seats that it took back. `glance`
-/// is the word of a lead's last `collect`, or of a worker's last `is_closed`.
+/// is the look of a lead's last `collect`, or of a worker's last `is_closed`.
 pub struct View<T> {
     pub role: Role,
     pub topic: Option<T>,

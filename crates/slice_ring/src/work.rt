@@ -8,7 +8,7 @@ ghost use Rattle.slice_ring.specs.Ticket.{Tag};
 ghost use Rattle.slice_ring.specs.Seats.{IsSame, IsWorking, Wins, WasReady, WasMissed};
 ghost use Rattle.slice_ring.specs.Steps.{look_at, sees_word, sees_first, sees_second, loses, finishes, glances};
 
-use crate::plays::{Claim, Finish, SeeClosing, SeeFirst, SeeSecond, SeeWord};
+use crate::plays::{Claim, Finish, Glimpse, SeeFirst, SeeSecond, SeeWord};
 use crate::table::{SlotTable, TableSeat};
 use crate::views::{Content, Numbered};
 
@@ -147,14 +147,24 @@ impl<J: Numbered + Drop, R: Numbered<Topic = J::Topic> + Drop> SlotTable<J, R> {
         self.store_done(seat, i, 4 * number + 3);
     }
 
+    // A load of a word, which is kept with its place.
+    fn glance(&self, seat: &mut TableSeat<J, R>, place: usize) -> u64
+        requires { (seat.old.table_id ≡ self.now.table.shared.table_id)
+            × (seat.old.me.0.role ≡ Works) × (place ≤ 3 * self.now.slots) }
+        ensures { IsSame seat.old seat.new
+            × (seat.new.me ≡ (glances place result seat.old.me.0, seat.old.me.1)) }
+    {
+        self.table.shared.load::<Glimpse>(seat, place)
+    }
+
     /// What a load of the closing word finds.
     pub(crate) fn is_closed(&self, seat: &mut TableSeat<J, R>) -> bool
         requires { (seat.old.table_id ≡ self.now.table.shared.table_id)
             × (seat.old.me.0.role ≡ Works) }
         ensures same { IsSame seat.old seat.new }
-        ensures found { (word : ℕ) × (seat.new.me ≡ (glances word seat.old.me.0, seat.old.me.1))
+        ensures found { (word : ℕ) × (seat.new.me ≡ (glances 0 word seat.old.me.0, seat.old.me.1))
             × (result ≡ (word == 1)) }
     {
-        self.table.shared.load::<SeeClosing>(seat, 0) == 1
+        self.glance(seat, 0) == 1
     }
 }

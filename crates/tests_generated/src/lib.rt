@@ -3,3 +3,5 @@
 
 #[cfg(test)]
 mod counter;
+#[cfg(test)]
+mod period;
