@@ -1,7 +1,7 @@
 -- The calls that the cache asks for at a thing.
 use Rattle.std.specs.Prelude.{List, [], ◌∷◌}
 use Rattle.rv_isa.specs.declared.op.Op.{Op}
-use Rattle.rv_isa.specs.declared.op.Op.TheVariants.{Lb, Lh, Lw, Lbu, Lhu, Sb, Sh, Sw}
+use Rattle.rv_isa.specs.declared.op.Op.TheVariants.{Lb, Lh, Lw, Lbu, Lhu, Sb, Sh, Sw, LrW, ScW, AmoswapW, AmoaddW, AmoxorW, AmoandW, AmoorW, AmominW, AmomaxW, AmominuW, AmomaxuW}
 use Rattle.insert_points.specs.declared.call.Arg.{Arg}
 use Rattle.insert_points.specs.declared.call.Arg.TheVariants.{MemSize, ReadEa, WriteEa}
 use Rattle.insert_points.specs.declared.call.Call.{Call}
@@ -21,9 +21,20 @@ access_calls Lh = access_call ReadEa ∷ []
 access_calls Lw = access_call ReadEa ∷ []
 access_calls Lbu = access_call ReadEa ∷ []
 access_calls Lhu = access_call ReadEa ∷ []
+access_calls LrW = access_call ReadEa ∷ []
+access_calls AmoswapW = access_call ReadEa ∷ []
+access_calls AmoaddW = access_call ReadEa ∷ []
+access_calls AmoxorW = access_call ReadEa ∷ []
+access_calls AmoandW = access_call ReadEa ∷ []
+access_calls AmoorW = access_call ReadEa ∷ []
+access_calls AmominW = access_call ReadEa ∷ []
+access_calls AmomaxW = access_call ReadEa ∷ []
+access_calls AmominuW = access_call ReadEa ∷ []
+access_calls AmomaxuW = access_call ReadEa ∷ []
 access_calls Sb = access_call WriteEa ∷ []
 access_calls Sh = access_call WriteEa ∷ []
 access_calls Sw = access_call WriteEa ∷ []
+access_calls ScW = access_call WriteEa ∷ []
 access_calls _ = []
 
 abbrev pub cache_calls : Thing → List Call

@@ -1,6 +1,6 @@
--- A guest's machine: one hart of RV32IM with its memory (RISC-V unprivileged manual, "Programmers' Model for Base Integer ISA").
-use Rattle.std.specs.Prelude.{ℕ, ◌+◌, ◌==◌, Bool, List, Option, slice_index, slice_set, if◌then◌else◌, option_and_then, refl}
-use Rattle.std.specs.Coded.{Coded, coded_ℕ, coded_bool, coded_list, coded×, code_by}
+-- A guest's machine: one hart of RV32IMA with its memory (RISC-V unprivileged manual, "Programmers' Model for Base Integer ISA").
+use Rattle.std.specs.Prelude.{ℕ, ◌+◌, ◌==◌, Bool, false, List, Option, None, Some, slice_index, slice_set, if◌then◌else◌, option_and_then, refl}
+use Rattle.std.specs.Coded.{Coded, coded_ℕ, coded_bool, coded_list, coded_option, coded×, code_by}
 use Rattle.rv_isa.specs.Table.{Fields}
 use Rattle.rv_isa.specs.Decoded.{decoded}
 use Rattle.guest_model.specs.Areas.{wrap}
@@ -15,10 +15,17 @@ pub record Machine : Type 0 where
   pub space : Space
   -- the last instruction ended a block, or none has run
   pub fresh : Bool
+  -- the address that lr.w reserved, where no sc.w and no call came since ("Load-Reserved/Store-Conditional Instructions")
+  pub reservation : Option ℕ
 
 -- the value of a register
 abbrev pub register : Machine → ℕ → ℕ
 register m n = slice_index m.registers n
+
+-- whether this address is the one that is reserved
+abbrev pub is_reserved : Option ℕ → ℕ → Bool
+is_reserved None a = false
+is_reserved (Some reserved) a = reserved == a
 
 -- the registers with a value in rd; a write to x0 is dropped
 abbrev pub put : ℕ → ℕ → List ℕ → List ℕ
@@ -34,6 +41,6 @@ instruction_at m = option_and_then decoded (read_number Execute m.space m.pc 4)
 
 -- how a machine is stored as plain data
 abbrev pub machine_code : Coded Machine
-machine_code = code_by (ℕ × (List ℕ × (Space × Bool))) (coded× coded_ℕ (coded× (coded_list coded_ℕ) (coded× space_code coded_bool)))
-    (λ m. (m.pc, (m.registers, (m.space, m.fresh))))
-    (λ p. record { pc = p.0; registers = p.1.0; space = p.1.1.0; fresh = p.1.1.1 }) (λ _. refl)
+machine_code = code_by (ℕ × (List ℕ × (Space × (Bool × Option ℕ)))) (coded× coded_ℕ (coded× (coded_list coded_ℕ) (coded× space_code (coded× coded_bool (coded_option coded_ℕ)))))
+    (λ m. (m.pc, (m.registers, (m.space, (m.fresh, m.reservation)))))
+    (λ p. record { pc = p.0; registers = p.1.0; space = p.1.1.0; fresh = p.1.1.1.0; reservation = p.1.1.1.1 }) (λ _. refl)

@@ -2,7 +2,7 @@
 use Rattle.std.proofs.Common.{◌≡◌, ℕ, List, [], ◌∷◌, map, ap, refl}
 use Rattle.std.specs.Prelude.{Option, None, Some, if◌then◌else◌}
 use Rattle.rv_isa.specs.declared.op.Op.{Op}
-use Rattle.rv_isa.specs.declared.op.Op.TheVariants.{Jal, Jalr, Beq, Bne, Blt, Bge, Bltu, Bgeu, Lb, Lh, Lw, Lbu, Lhu, Sb, Sh, Sw}
+use Rattle.rv_isa.specs.declared.op.Op.TheVariants.{Jal, Jalr, Beq, Bne, Blt, Bge, Bltu, Bgeu, Lb, Lh, Lw, Lbu, Lhu, Sb, Sh, Sw, LrW, ScW, AmoswapW, AmoaddW, AmoxorW, AmoandW, AmoorW, AmominW, AmomaxW, AmominuW, AmomaxuW}
 use Rattle.insert_points.specs.Arguments.{jumps_by, read_address, target_of, value_of, write_address}
 use Rattle.insert_points.specs.Calls.{args_of, calls_at}
 use Rattle.insert_points.specs.Events.{event_of}
@@ -19,12 +19,32 @@ reads Lh o registers = refl
 reads Lw o registers = refl
 reads Lbu o registers = refl
 reads Lhu o registers = refl
+reads LrW o registers = refl
+reads AmoswapW o registers = refl
+reads AmoaddW o registers = refl
+reads AmoxorW o registers = refl
+reads AmoandW o registers = refl
+reads AmoorW o registers = refl
+reads AmominW o registers = refl
+reads AmomaxW o registers = refl
+reads AmominuW o registers = refl
+reads AmomaxuW o registers = refl
 reads _ o registers = refl
 
 writes : (op : Op) (o : Operands) (registers : List ℕ) → source_value (write_source op) o registers ≡ write_address op o
 writes Sb o registers = refl
 writes Sh o registers = refl
 writes Sw o registers = refl
+writes ScW o registers = refl
+writes AmoswapW o registers = refl
+writes AmoaddW o registers = refl
+writes AmoxorW o registers = refl
+writes AmoandW o registers = refl
+writes AmoorW o registers = refl
+writes AmominW o registers = refl
+writes AmomaxW o registers = refl
+writes AmominuW o registers = refl
+writes AmomaxuW o registers = refl
 writes _ o registers = refl
 
 targets : (op : Op) (o : Operands) (registers : List ℕ) → source_value (target_source op) o registers ≡ target_of op o

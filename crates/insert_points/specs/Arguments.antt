@@ -3,14 +3,14 @@
 use Rattle.std.specs.Prelude.{ℕ, ◌+◌, Bool, true, List, slice_index, if◌then◌else◌}
 use Rattle.rv_isa.specs.Kinds.{is_taken, mem_size}
 use Rattle.rv_isa.specs.declared.op.Op.{Op}
-use Rattle.rv_isa.specs.declared.op.Op.TheVariants.{Jal, Jalr, Beq, Bne, Blt, Bge, Bltu, Bgeu, Lb, Lh, Lw, Lbu, Lhu, Sb, Sh, Sw}
+use Rattle.rv_isa.specs.declared.op.Op.TheVariants.{Jal, Jalr, Beq, Bne, Blt, Bge, Bltu, Bgeu, Lb, Lh, Lw, Lbu, Lhu, Sb, Sh, Sw, LrW, ScW, AmoswapW, AmoaddW, AmoxorW, AmoandW, AmoorW, AmominW, AmomaxW, AmominuW, AmomaxuW}
 use Rattle.guest_model.specs.Areas.{wrap}
 use Rattle.guest_model.specs.Effect.{even, immediate}
 use Rattle.insert_points.specs.declared.call.Arg.{Arg}
 use Rattle.insert_points.specs.declared.call.Arg.TheVariants.{InstPtr, ReadEa, WriteEa, MemSize, BranchTaken, Target, Reg, Const}
 use Rattle.insert_points.specs.declared.operands.Operands.{Operands}
 
--- rs1 with the immediate: where a load or a store goes, and where jalr goes before the lowest bit is cleared
+-- rs1 with the immediate: where a load, a store or an atomic, whose immediate is 0, goes, and where jalr goes before the lowest bit is cleared
 abbrev pub address_of : Operands → ℕ
 address_of o = wrap (o.a + immediate o.instr)
 
@@ -33,12 +33,32 @@ read_address Lh o = address_of o
 read_address Lw o = address_of o
 read_address Lbu o = address_of o
 read_address Lhu o = address_of o
+read_address LrW o = address_of o
+read_address AmoswapW o = address_of o
+read_address AmoaddW o = address_of o
+read_address AmoxorW o = address_of o
+read_address AmoandW o = address_of o
+read_address AmoorW o = address_of o
+read_address AmominW o = address_of o
+read_address AmomaxW o = address_of o
+read_address AmominuW o = address_of o
+read_address AmomaxuW o = address_of o
 read_address _ o = 0
 
 abbrev pub write_address : Op → Operands → ℕ
 write_address Sb o = address_of o
 write_address Sh o = address_of o
 write_address Sw o = address_of o
+write_address ScW o = address_of o
+write_address AmoswapW o = address_of o
+write_address AmoaddW o = address_of o
+write_address AmoxorW o = address_of o
+write_address AmoandW o = address_of o
+write_address AmoorW o = address_of o
+write_address AmominW o = address_of o
+write_address AmomaxW o = address_of o
+write_address AmominuW o = address_of o
+write_address AmomaxuW o = address_of o
 write_address _ o = 0
 
 abbrev pub target_of : Op → Operands → ℕ

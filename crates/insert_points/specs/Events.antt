@@ -76,7 +76,7 @@ pub record Shows (view : StepView) (item : TraceItem) : Type 0 where
 
 -- an item that a view shows: one with an empty memory
 abbrev pub machine_with : ℕ → List ℕ → Bool → Machine
-machine_with pc registers fresh = record { pc = pc; registers = registers; space = empty_space 0; fresh = fresh }
+machine_with pc registers fresh = record { pc = pc; registers = registers; space = empty_space 0; fresh = fresh; reservation = None }
 
 abbrev pub item_of : StepView → TraceItem
 item_of view = record {

@@ -2,7 +2,7 @@
 use Rattle.std.specs.Prelude.{ℕ, List, [], ◌∷◌, map, Option, None, Some, slice_index}
 use Rattle.rv_isa.specs.Kinds.{mem_size}
 use Rattle.rv_isa.specs.declared.op.Op.{Op}
-use Rattle.rv_isa.specs.declared.op.Op.TheVariants.{Jal, Jalr, Beq, Bne, Blt, Bge, Bltu, Bgeu, Lb, Lh, Lw, Lbu, Lhu, Sb, Sh, Sw}
+use Rattle.rv_isa.specs.declared.op.Op.TheVariants.{Jal, Jalr, Beq, Bne, Blt, Bge, Bltu, Bgeu, Lb, Lh, Lw, Lbu, Lhu, Sb, Sh, Sw, LrW, ScW, AmoswapW, AmoaddW, AmoxorW, AmoandW, AmoorW, AmominW, AmomaxW, AmominuW, AmomaxuW}
 use Rattle.guest_model.specs.Effect.{even}
 use Rattle.insert_points.specs.declared.call.Arg.{Arg}
 use Rattle.insert_points.specs.declared.call.Arg.TheVariants.{InstPtr, ReadEa, WriteEa, MemSize, BranchTaken, Target, Reg, Const}
@@ -25,12 +25,32 @@ read_source Lh = sources.Address
 read_source Lw = sources.Address
 read_source Lbu = sources.Address
 read_source Lhu = sources.Address
+read_source LrW = sources.Address
+read_source AmoswapW = sources.Address
+read_source AmoaddW = sources.Address
+read_source AmoxorW = sources.Address
+read_source AmoandW = sources.Address
+read_source AmoorW = sources.Address
+read_source AmominW = sources.Address
+read_source AmomaxW = sources.Address
+read_source AmominuW = sources.Address
+read_source AmomaxuW = sources.Address
 read_source _ = sources.Fixed 0
 
 abbrev pub write_source : Op → Source
 write_source Sb = sources.Address
 write_source Sh = sources.Address
 write_source Sw = sources.Address
+write_source ScW = sources.Address
+write_source AmoswapW = sources.Address
+write_source AmoaddW = sources.Address
+write_source AmoxorW = sources.Address
+write_source AmoandW = sources.Address
+write_source AmoorW = sources.Address
+write_source AmominW = sources.Address
+write_source AmomaxW = sources.Address
+write_source AmominuW = sources.Address
+write_source AmomaxuW = sources.Address
 write_source _ = sources.Fixed 0
 
 abbrev pub taken_source : Op → Source

@@ -48,6 +48,8 @@ fn read_source(op: Op) -> Source
 {
     match op {
         Op::Lb | Op::Lh | Op::Lw | Op::Lbu | Op::Lhu => Source::Address,
+        Op::LrW | Op::AmoswapW | Op::AmoaddW | Op::AmoxorW | Op::AmoandW | Op::AmoorW => Source::Address,
+        Op::AmominW | Op::AmomaxW | Op::AmominuW | Op::AmomaxuW => Source::Address,
         _ => Source::Fixed(0),
     }
 }
@@ -57,6 +59,8 @@ fn write_source(op: Op) -> Source
 {
     match op {
         Op::Sb | Op::Sh | Op::Sw => Source::Address,
+        Op::ScW | Op::AmoswapW | Op::AmoaddW | Op::AmoxorW | Op::AmoandW | Op::AmoorW => Source::Address,
+        Op::AmominW | Op::AmomaxW | Op::AmominuW | Op::AmomaxuW => Source::Address,
         _ => Source::Fixed(0),
     }
 }
@@ -89,7 +93,9 @@ fn size_of_access(op: Op) -> u32
     match op {
         Op::Lb | Op::Lbu | Op::Sb => 1,
         Op::Lh | Op::Lhu | Op::Sh => 2,
-        Op::Lw | Op::Sw => 4,
+        Op::Lw | Op::Sw | Op::LrW | Op::ScW => 4,
+        Op::AmoswapW | Op::AmoaddW | Op::AmoxorW | Op::AmoandW | Op::AmoorW => 4,
+        Op::AmominW | Op::AmomaxW | Op::AmominuW | Op::AmomaxuW => 4,
         _ => 0,
     }
 }

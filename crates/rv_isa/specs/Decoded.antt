@@ -2,13 +2,13 @@
 use Rattle.std.specs.Prelude.{ℕ, ◌^◌, Bool, ◌==◌, nat_lt, ◌&&◌, if◌then◌else◌, List, [], ◌∷◌, Option, Some, None}
 use Rattle.std.specs.Option.{option_map}
 use Rattle.rv_isa.specs.Word.{bits}
-use Rattle.rv_isa.specs.Table.{Row, Fields, R, I, Shift, S, B, U, J, Bare, Whole, row_of, rd_of, rs1_of, rs2_of, imm_of}
+use Rattle.rv_isa.specs.Table.{Row, Fields, R, I, Shift, S, B, U, J, Bare, Whole, Atomic, Reserve, row_of, rd_of, rs1_of, rs2_of, imm_of}
 use Rattle.rv_isa.specs.declared.op.Op.{Op}
-use Rattle.rv_isa.specs.declared.op.Op.TheVariants.{Lui, Auipc, Jal, Jalr, Beq, Bne, Blt, Bge, Bltu, Bgeu, Lb, Lh, Lw, Lbu, Lhu, Sb, Sh, Sw, Addi, Slti, Sltiu, Xori, Ori, Andi, Slli, Srli, Srai, Add, Sub, Sll, Slt, Sltu, Xor, Srl, Sra, Or, And, Fence, Ecall, Ebreak, Mul, Mulh, Mulhsu, Mulhu, Div, Divu, Rem, Remu}
+use Rattle.rv_isa.specs.declared.op.Op.TheVariants.{Lui, Auipc, Jal, Jalr, Beq, Bne, Blt, Bge, Bltu, Bgeu, Lb, Lh, Lw, Lbu, Lhu, Sb, Sh, Sw, Addi, Slti, Sltiu, Xori, Ori, Andi, Slli, Srli, Srai, Add, Sub, Sll, Slt, Sltu, Xor, Srl, Sra, Or, And, Fence, Ecall, Ebreak, Mul, Mulh, Mulhsu, Mulhu, Div, Divu, Rem, Remu, LrW, ScW, AmoswapW, AmoaddW, AmoxorW, AmoandW, AmoorW, AmominW, AmomaxW, AmominuW, AmomaxuW}
 
 -- the names in the table's order
 abbrev pub ops : List Op
-ops = Lui ∷ Auipc ∷ Jal ∷ Jalr ∷ Beq ∷ Bne ∷ Blt ∷ Bge ∷ Bltu ∷ Bgeu ∷ Lb ∷ Lh ∷ Lw ∷ Lbu ∷ Lhu ∷ Sb ∷ Sh ∷ Sw ∷ Addi ∷ Slti ∷ Sltiu ∷ Xori ∷ Ori ∷ Andi ∷ Slli ∷ Srli ∷ Srai ∷ Add ∷ Sub ∷ Sll ∷ Slt ∷ Sltu ∷ Xor ∷ Srl ∷ Sra ∷ Or ∷ And ∷ Fence ∷ Ecall ∷ Ebreak ∷ Mul ∷ Mulh ∷ Mulhsu ∷ Mulhu ∷ Div ∷ Divu ∷ Rem ∷ Remu ∷ []
+ops = Lui ∷ Auipc ∷ Jal ∷ Jalr ∷ Beq ∷ Bne ∷ Blt ∷ Bge ∷ Bltu ∷ Bgeu ∷ Lb ∷ Lh ∷ Lw ∷ Lbu ∷ Lhu ∷ Sb ∷ Sh ∷ Sw ∷ Addi ∷ Slti ∷ Sltiu ∷ Xori ∷ Ori ∷ Andi ∷ Slli ∷ Srli ∷ Srai ∷ Add ∷ Sub ∷ Sll ∷ Slt ∷ Sltu ∷ Xor ∷ Srl ∷ Sra ∷ Or ∷ And ∷ Fence ∷ Ecall ∷ Ebreak ∷ Mul ∷ Mulh ∷ Mulhsu ∷ Mulhu ∷ Div ∷ Divu ∷ Rem ∷ Remu ∷ LrW ∷ ScW ∷ AmoswapW ∷ AmoaddW ∷ AmoxorW ∷ AmoandW ∷ AmoorW ∷ AmominW ∷ AmomaxW ∷ AmominuW ∷ AmomaxuW ∷ []
 
 -- what a row fixes stands in the word, as a test
 abbrev pub is_fixed : Row → ℕ → Bool
@@ -21,6 +21,8 @@ is_fixed (U opcode) word = bits word 6 0 == opcode
 is_fixed (J opcode) word = bits word 6 0 == opcode
 is_fixed (Bare opcode f3) word = (bits word 6 0 == opcode) && (bits word 14 12 == f3)
 is_fixed (Whole fixed) word = word == fixed
+is_fixed (Atomic opcode f3 f5) word = (bits word 6 0 == opcode) && ((bits word 14 12 == f3) && (bits word 31 27 == f5))
+is_fixed (Reserve opcode f3 f5) word = (bits word 6 0 == opcode) && ((bits word 14 12 == f3) && ((bits word 31 27 == f5) && (bits word 24 20 == 0)))
 
 -- the first name whose row the word has
 abbrev pub first_op : ℕ → List Op → Option Op

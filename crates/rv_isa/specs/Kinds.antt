@@ -2,7 +2,7 @@
 use Rattle.std.specs.Prelude.{ℕ, ◌==◌, nat_lt, if◌then◌else◌, Bool, true, false, not, ◌&&◌, ◌||◌, int_lt}
 use Rattle.rv_isa.specs.Word.{signed, signed_of, modulo}
 use Rattle.rv_isa.specs.declared.op.Op.{Op}
-use Rattle.rv_isa.specs.declared.op.Op.TheVariants.{Jal, Jalr, Beq, Bne, Blt, Bge, Bltu, Bgeu, Lb, Lh, Lw, Lbu, Lhu, Sb, Sh, Sw, Ecall, Ebreak}
+use Rattle.rv_isa.specs.declared.op.Op.TheVariants.{Jal, Jalr, Beq, Bne, Blt, Bge, Bltu, Bgeu, Lb, Lh, Lw, Lbu, Lhu, Sb, Sh, Sw, Ecall, Ebreak, LrW, ScW, AmoswapW, AmoaddW, AmoxorW, AmoandW, AmoorW, AmominW, AmomaxW, AmominuW, AmomaxuW}
 use Rattle.rv_isa.specs.declared.kinds.Link.{Link}
 use Rattle.rv_isa.specs.declared.kinds.Link.TheVariants as links
 
@@ -23,7 +23,7 @@ loaded_of Lb n = modulo (signed 8 n)
 loaded_of Lh n = modulo (signed 16 n)
 loaded_of _ n = n
 
--- how many bytes an instruction loads or stores
+-- how many bytes an instruction loads or stores; an atomic, one word
 abbrev pub mem_size : Op → ℕ
 mem_size Lb = 1
 mem_size Lbu = 1
@@ -33,6 +33,17 @@ mem_size Lhu = 2
 mem_size Sh = 2
 mem_size Lw = 4
 mem_size Sw = 4
+mem_size LrW = 4
+mem_size ScW = 4
+mem_size AmoswapW = 4
+mem_size AmoaddW = 4
+mem_size AmoxorW = 4
+mem_size AmoandW = 4
+mem_size AmoorW = 4
+mem_size AmominW = 4
+mem_size AmomaxW = 4
+mem_size AmominuW = 4
+mem_size AmomaxuW = 4
 mem_size _ = 0
 
 -- the instructions that end a block: branches, jumps, ecall and ebreak

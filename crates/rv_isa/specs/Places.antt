@@ -1,7 +1,7 @@
 -- The place of an instruction's name in the table, counted from 0: how many names stand before it.
 use Rattle.std.specs.Prelude.{ℕ}
 use Rattle.rv_isa.specs.declared.op.Op.{Op}
-use Rattle.rv_isa.specs.declared.op.Op.TheVariants.{Lui, Auipc, Jal, Jalr, Beq, Bne, Blt, Bge, Bltu, Bgeu, Lb, Lh, Lw, Lbu, Lhu, Sb, Sh, Sw, Addi, Slti, Sltiu, Xori, Ori, Andi, Slli, Srli, Srai, Add, Sub, Sll, Slt, Sltu, Xor, Srl, Sra, Or, And, Fence, Ecall, Ebreak, Mul, Mulh, Mulhsu, Mulhu, Div, Divu, Rem, Remu}
+use Rattle.rv_isa.specs.declared.op.Op.TheVariants.{Lui, Auipc, Jal, Jalr, Beq, Bne, Blt, Bge, Bltu, Bgeu, Lb, Lh, Lw, Lbu, Lhu, Sb, Sh, Sw, Addi, Slti, Sltiu, Xori, Ori, Andi, Slli, Srli, Srai, Add, Sub, Sll, Slt, Sltu, Xor, Srl, Sra, Or, And, Fence, Ecall, Ebreak, Mul, Mulh, Mulhsu, Mulhu, Div, Divu, Rem, Remu, LrW, ScW, AmoswapW, AmoaddW, AmoxorW, AmoandW, AmoorW, AmominW, AmomaxW, AmominuW, AmomaxuW}
 
 abbrev pub place_of : Op → ℕ
 place_of Lui = 0
@@ -52,3 +52,14 @@ place_of Div = 44
 place_of Divu = 45
 place_of Rem = 46
 place_of Remu = 47
+place_of LrW = 48
+place_of ScW = 49
+place_of AmoswapW = 50
+place_of AmoaddW = 51
+place_of AmoxorW = 52
+place_of AmoandW = 53
+place_of AmoorW = 54
+place_of AmominW = 55
+place_of AmomaxW = 56
+place_of AmominuW = 57
+place_of AmomaxuW = 58

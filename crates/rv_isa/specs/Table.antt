@@ -1,10 +1,10 @@
--- The instructions of RV32IM: which words have which name, and where a word keeps its fields.
+-- The instructions of RV32IMA: which words have which name, and where a word keeps its fields.
 -- The RISC-V unprivileged manual: "Base Instruction Formats", "Immediate Encoding Variants", and the tables
--- "RV32I Base Instruction Set" and "RV32M Standard Extension" of the instruction set listings.
+-- "RV32I Base Instruction Set", "RV32M Standard Extension" and "RV32A Standard Extension" of the instruction set listings.
 use Rattle.std.specs.Prelude.{◌≡◌, ℕ, ◌+◌, ◌-◌, ◌*◌, ◌%◌, ◌^◌, ◌<◌, ℤ, pos, ◌≤ℤ◌, ◌<ℤ◌, neg_ℤ}
 use Rattle.rv_isa.specs.Word.{bits, signed, unsigned_of}
 use Rattle.rv_isa.specs.declared.op.Op.{Op}
-use Rattle.rv_isa.specs.declared.op.Op.TheVariants.{Lui, Auipc, Jal, Jalr, Beq, Bne, Blt, Bge, Bltu, Bgeu, Lb, Lh, Lw, Lbu, Lhu, Sb, Sh, Sw, Addi, Slti, Sltiu, Xori, Ori, Andi, Slli, Srli, Srai, Add, Sub, Sll, Slt, Sltu, Xor, Srl, Sra, Or, And, Fence, Ecall, Ebreak, Mul, Mulh, Mulhsu, Mulhu, Div, Divu, Rem, Remu}
+use Rattle.rv_isa.specs.declared.op.Op.TheVariants.{Lui, Auipc, Jal, Jalr, Beq, Bne, Blt, Bge, Bltu, Bgeu, Lb, Lh, Lw, Lbu, Lhu, Sb, Sh, Sw, Addi, Slti, Sltiu, Xori, Ori, Andi, Slli, Srli, Srai, Add, Sub, Sll, Slt, Sltu, Xor, Srl, Sra, Or, And, Fence, Ecall, Ebreak, Mul, Mulh, Mulhsu, Mulhu, Div, Divu, Rem, Remu, LrW, ScW, AmoswapW, AmoaddW, AmoxorW, AmoandW, AmoorW, AmominW, AmomaxW, AmominuW, AmomaxuW}
 
 -- An instruction: its name, the numbers of its registers, and its immediate. A field that its form lacks is 0.
 pub record Fields : Type 0 where
@@ -15,7 +15,9 @@ pub record Fields : Type 0 where
   pub imm : ℤ
 
 -- A row of the table: the instruction's form, and what it fixes, which is the opcode, f3 and f7, or the whole word.
--- `Shift` is the I form of the shifts, which fixes f7 too; `Bare` is fence's, whose other fields are ignored.
+-- `Shift` is the I form of the shifts, which fixes f7 too; `Bare` is fence's, whose other fields are ignored. `Atomic` is the
+-- R form of the atomics, which fixes the upper five bits of f7 and ignores the two below (aq and rl); `Reserve` is the same
+-- with an rs2 field of 0.
 pub data Row : Type 0 where
   R : (opcode f3 f7 : ℕ) → Row
   I : (opcode f3 : ℕ) → Row
@@ -26,6 +28,8 @@ pub data Row : Type 0 where
   J : (opcode : ℕ) → Row
   Bare : (opcode f3 : ℕ) → Row
   Whole : (word : ℕ) → Row
+  Atomic : (opcode f3 f5 : ℕ) → Row
+  Reserve : (opcode f3 f5 : ℕ) → Row
 
 -- the table
 abbrev pub row_of : Op → Row
@@ -77,6 +81,17 @@ row_of Div = R 0b0110011 0b100 0b0000001
 row_of Divu = R 0b0110011 0b101 0b0000001
 row_of Rem = R 0b0110011 0b110 0b0000001
 row_of Remu = R 0b0110011 0b111 0b0000001
+row_of LrW = Reserve 0b0101111 0b010 0b00010
+row_of ScW = Atomic 0b0101111 0b010 0b00011
+row_of AmoswapW = Atomic 0b0101111 0b010 0b00001
+row_of AmoaddW = Atomic 0b0101111 0b010 0b00000
+row_of AmoxorW = Atomic 0b0101111 0b010 0b00100
+row_of AmoandW = Atomic 0b0101111 0b010 0b01100
+row_of AmoorW = Atomic 0b0101111 0b010 0b01000
+row_of AmominW = Atomic 0b0101111 0b010 0b10000
+row_of AmomaxW = Atomic 0b0101111 0b010 0b10100
+row_of AmominuW = Atomic 0b0101111 0b010 0b11000
+row_of AmomaxuW = Atomic 0b0101111 0b010 0b11100
 
 -- what a row fixes stands in the word
 abbrev pub IsFixed : Row → ℕ → Type 0
@@ -89,6 +104,8 @@ IsFixed (U opcode) word = bits word 6 0 ≡ opcode
 IsFixed (J opcode) word = bits word 6 0 ≡ opcode
 IsFixed (Bare opcode f3) word = (bits word 6 0 ≡ opcode) × (bits word 14 12 ≡ f3)
 IsFixed (Whole fixed) word = word ≡ fixed
+IsFixed (Atomic opcode f3 f5) word = (bits word 6 0 ≡ opcode) × (bits word 14 12 ≡ f3) × (bits word 31 27 ≡ f5)
+IsFixed (Reserve opcode f3 f5) word = (bits word 6 0 ≡ opcode) × (bits word 14 12 ≡ f3) × (bits word 31 27 ≡ f5) × (bits word 24 20 ≡ 0)
 
 -- the register that the word's bits 11 to 7 name, in the forms that have one
 abbrev pub rd_of : Row → ℕ → ℕ
@@ -111,6 +128,7 @@ abbrev pub rs2_of : Row → ℕ → ℕ
 rs2_of (R _ _ _) word = bits word 24 20
 rs2_of (S _ _) word = bits word 24 20
 rs2_of (B _ _) word = bits word 24 20
+rs2_of (Atomic _ _ _) word = bits word 24 20
 rs2_of _ word = 0
 
 -- The immediates of the forms: their pieces in the word, each at its place, with bit 31 of the word as the sign.
@@ -167,7 +185,16 @@ HasForm (U _) i = (i.rd < 32) × (i.rs1 ≡ 0) × (i.rs2 ≡ 0) × HasWidth 32 i
 HasForm (J _) i = (i.rd < 32) × (i.rs1 ≡ 0) × (i.rs2 ≡ 0) × HasWidth 21 i.imm × IsMultipleOf i.imm 2
 HasForm (Bare _ _) i = (i.rd ≡ 0) × (i.rs1 ≡ 0) × (i.rs2 ≡ 0) × (i.imm ≡ pos 0)
 HasForm (Whole _) i = (i.rd ≡ 0) × (i.rs1 ≡ 0) × (i.rs2 ≡ 0) × (i.imm ≡ pos 0)
+HasForm (Atomic _ _ _) i = (i.rd < 32) × (i.rs1 < 32) × (i.rs2 < 32) × (i.imm ≡ pos 0)
+HasForm (Reserve _ _ _) i = (i.rd < 32) × (i.rs1 < 32) × (i.rs2 ≡ 0) × (i.imm ≡ pos 0)
 
 -- the invariant of an instruction
 abbrev pub IsInstr : Fields → Type 0
 IsInstr i = HasForm (row_of i.op) i
+
+-- The bits that an atomic's row ignores are 0. No word of fence counts, whose ignored fields have no value of their own.
+abbrev pub HasPlainBits : Row → ℕ → Type 0
+HasPlainBits (Bare _ _) word = ⊥
+HasPlainBits (Atomic _ _ _) word = bits word 26 25 ≡ 0
+HasPlainBits (Reserve _ _ _) word = bits word 26 25 ≡ 0
+HasPlainBits _ word = Unit {0}

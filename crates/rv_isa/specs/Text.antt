@@ -1,10 +1,10 @@
 -- The text of an instruction: its name, a space, and its operands.
 use Rattle.std.specs.Prelude.{ℕ, List, ◌++◌, codes, ◌==◌, if◌then◌else◌, ℤ, false}
 use Rattle.std.specs.Fmt.{decimal, signed_decimal, digits}
-use Rattle.rv_isa.specs.Table.{Row, Fields, R, I, Shift, S, B, U, J, Bare, Whole, row_of}
+use Rattle.rv_isa.specs.Table.{Row, Fields, R, I, Shift, S, B, U, J, Bare, Whole, Atomic, Reserve, row_of}
 use Rattle.rv_isa.specs.Word.{bits, unsigned_of}
 use Rattle.rv_isa.specs.declared.op.Op.{Op}
-use Rattle.rv_isa.specs.declared.op.Op.TheVariants.{Lui, Auipc, Jal, Jalr, Beq, Bne, Blt, Bge, Bltu, Bgeu, Lb, Lh, Lw, Lbu, Lhu, Sb, Sh, Sw, Addi, Slti, Sltiu, Xori, Ori, Andi, Slli, Srli, Srai, Add, Sub, Sll, Slt, Sltu, Xor, Srl, Sra, Or, And, Fence, Ecall, Ebreak, Mul, Mulh, Mulhsu, Mulhu, Div, Divu, Rem, Remu}
+use Rattle.rv_isa.specs.declared.op.Op.TheVariants.{Lui, Auipc, Jal, Jalr, Beq, Bne, Blt, Bge, Bltu, Bgeu, Lb, Lh, Lw, Lbu, Lhu, Sb, Sh, Sw, Addi, Slti, Sltiu, Xori, Ori, Andi, Slli, Srli, Srai, Add, Sub, Sll, Slt, Sltu, Xor, Srl, Sra, Or, And, Fence, Ecall, Ebreak, Mul, Mulh, Mulhsu, Mulhu, Div, Divu, Rem, Remu, LrW, ScW, AmoswapW, AmoaddW, AmoxorW, AmoandW, AmoorW, AmominW, AmomaxW, AmominuW, AmomaxuW}
 
 -- the name in lower case
 abbrev pub name_of : Op → List ℕ
@@ -56,6 +56,17 @@ name_of Div = codes "div"
 name_of Divu = codes "divu"
 name_of Rem = codes "rem"
 name_of Remu = codes "remu"
+name_of LrW = codes "lr.w"
+name_of ScW = codes "sc.w"
+name_of AmoswapW = codes "amoswap.w"
+name_of AmoaddW = codes "amoadd.w"
+name_of AmoxorW = codes "amoxor.w"
+name_of AmoandW = codes "amoand.w"
+name_of AmoorW = codes "amoor.w"
+name_of AmominW = codes "amomin.w"
+name_of AmomaxW = codes "amomax.w"
+name_of AmominuW = codes "amominu.w"
+name_of AmomaxuW = codes "amomaxu.w"
 
 abbrev pub register : ℕ → List ℕ
 register n = codes "x" ++ decimal n
@@ -68,6 +79,10 @@ listed a b c = codes " " ++ (a ++ (codes "," ++ (b ++ (codes "," ++ c))))
 abbrev pub addressed : ℕ → ℤ → ℕ → List ℕ
 addressed r imm base = codes " " ++ (register r ++ (codes "," ++ (signed_decimal imm ++ (codes "(" ++ (register base ++ codes ")")))))
 
+-- `(base)`
+abbrev pub pointed : ℕ → List ℕ
+pointed base = codes "(" ++ (register base ++ codes ")")
+
 -- what stands after the name: the computing I forms list their fields, and the loads and jalr have an address
 abbrev pub arguments : Row → Fields → List ℕ
 arguments (R _ _ _) i = listed (register i.rd) (register i.rs1) (register i.rs2)
@@ -79,6 +94,8 @@ arguments (U _) i = codes " " ++ (register i.rd ++ (codes ",0x" ++ digits 16 fal
 arguments (J _) i = codes " " ++ (register i.rd ++ (codes "," ++ signed_decimal i.imm))
 arguments (Bare _ _) i = codes ""
 arguments (Whole _) i = codes ""
+arguments (Atomic _ _ _) i = listed (register i.rd) (register i.rs2) (pointed i.rs1)
+arguments (Reserve _ _ _) i = codes " " ++ (register i.rd ++ (codes "," ++ pointed i.rs1))
 
 abbrev pub text_of : Fields → List ℕ
 text_of i = name_of i.op ++ arguments (row_of i.op) i

@@ -1,6 +1,6 @@
-// The arithmetic of the instructions that compute.
+// The arithmetic of the instructions that compute, and of the atomics.
 ghost use Rattle.std.specs.Prelude.{◌≡◌};
-ghost use Rattle.rv_isa.specs.Arithmetic.{alu_of};
+ghost use Rattle.rv_isa.specs.Arithmetic.{alu_of, amo_of};
 
 use crate::op::Op;
 
@@ -37,5 +37,24 @@ pub fn alu(op: Op, a: u32, b: u32) -> Option<u32>
         Op::Remu if b == 0 => Some(a),
         Op::Remu => Some(a % b),
         _ => None,
+    }
+}
+
+/// What an atomic memory operation stores, from the word `v` that it read and the value `b` of rs2;
+/// `b` where the instruction is none.
+#[inline(always)]
+pub fn amo(op: Op, v: u32, b: u32) -> u32
+    ensures { result ≡ amo_of op v b }
+{
+    match op {
+        Op::AmoaddW => v.wrapping_add(b),
+        Op::AmoxorW => v ^ b,
+        Op::AmoandW => v & b,
+        Op::AmoorW => v | b,
+        Op::AmominW if v.cast_signed() < b.cast_signed() => v,
+        Op::AmomaxW if b.cast_signed() < v.cast_signed() => v,
+        Op::AmominuW if v < b => v,
+        Op::AmomaxuW if b < v => v,
+        _ => b,
     }
 }

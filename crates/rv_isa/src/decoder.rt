@@ -39,6 +39,7 @@ fn op_of(word: u32) -> Option<Op>
         0b0110011 => register(word),
         0b0001111 if bits(word, 14, 12) == 0 => Some(Op::Fence),
         0b1110011 => environment(word),
+        0b0101111 if bits(word, 14, 12) == 0b010 => atomic(word),
         _ => None,
     }
 }
@@ -204,6 +205,29 @@ fn environment(word: u32) -> Option<Op>
     }
 }
 
+// The atomics. The two bits below the name's five order the memory for other harts, and are ignored.
+fn atomic(word: u32) -> Option<Op>
+    requires opcode { bits word 6 0 ≡ 0b0101111 }
+    requires function { bits word 14 12 ≡ 0b010 }
+    ensures row { IfSome result (λ op. IsFixed (row_of op) word) }
+    ensures only { (op : Op) → IsFixed (row_of op) word → result ≡ Some op }
+{
+    match bits(word, 31, 27) {
+        0b00010 if bits(word, 24, 20) == 0 => Some(Op::LrW),
+        0b00011 => Some(Op::ScW),
+        0b00001 => Some(Op::AmoswapW),
+        0b00000 => Some(Op::AmoaddW),
+        0b00100 => Some(Op::AmoxorW),
+        0b01100 => Some(Op::AmoandW),
+        0b01000 => Some(Op::AmoorW),
+        0b10000 => Some(Op::AmominW),
+        0b10100 => Some(Op::AmomaxW),
+        0b11000 => Some(Op::AmominuW),
+        0b11100 => Some(Op::AmomaxuW),
+        _ => None,
+    }
+}
+
 // The instruction of this name that the word spells.
 fn fields(op: Op, word: u32) -> Instr
     requires { IsFixed (row_of op) word }
@@ -221,6 +245,8 @@ fn fields(op: Op, word: u32) -> Instr
         Form::U => Instr::new(op, rd, 0, 0, upper(word)),
         Form::J => Instr::new(op, rd, 0, 0, jump_offset(word)),
         Form::Bare => Instr::new(op, 0, 0, 0, 0),
+        Form::Atomic => Instr::new(op, rd, rs1, rs2, 0),
+        Form::Reserve => Instr::new(op, rd, rs1, 0, 0),
     }
 }
 

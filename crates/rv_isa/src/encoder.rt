@@ -1,7 +1,7 @@
 // From instructions to words.
 ghost use Rattle.std.specs.Prelude.{◌≡◌, ◌≢◌, ℕ, ◌+◌, ◌*◌, ◌<◌, ◌^◌};
 ghost use Rattle.rv_isa.specs.Word.{bits};
-ghost use Rattle.rv_isa.specs.Table.{Decodes};
+ghost use Rattle.rv_isa.specs.Table.{Decodes, HasPlainBits, row_of};
 ghost use Rattle.rv_isa.specs.Forms.{HasFields};
 
 use crate::instr::Instr;
@@ -9,10 +9,11 @@ use crate::op::{Form, Op};
 use crate::word::bits;
 
 /// The word of an instruction. The ignored fields of `fence` are those of a fence of all accesses
-/// before all after.
+/// before all after, and the ignored bits of an atomic are 0.
 pub fn encode(i: &Instr) -> u32
     ensures row { Decodes result i.now }
-    ensures only { (word : ℕ) → Decodes word i.now → i.now.op ≢ Op.Fence → word ≡ result }
+    ensures only { (word : ℕ) → Decodes word i.now → HasPlainBits (row_of i.now.op) word → word ≡ result }
+    ensures plain { i.now.op ≢ Op.Fence → HasPlainBits (row_of i.now.op) result }
     ensures fence { i.now.op ≡ Op.Fence → result ≡ 0x0FF0000F }
 {
     word_of(i)
@@ -21,6 +22,7 @@ pub fn encode(i: &Instr) -> u32
 // A word that decodes to the instruction.
 fn word_of(i: &Instr) -> u32
     ensures row { Decodes result i.now }
+    ensures plain { i.now.op ≢ Op.Fence → HasPlainBits (row_of i.now.op) result }
     ensures fence { i.now.op ≡ Op.Fence → result ≡ 0x0FF0000F }
 {
     match i.op {
@@ -53,6 +55,8 @@ fn word_of(i: &Instr) -> u32
             let turned = (bits(imm, 4, 1) << 1) + bits(imm, 11, 11);
             join(opcode, rd, low, middle, turned, top)
         }
+        Form::Atomic => join(opcode, rd, f3, rs1, rs2, f7),
+        Form::Reserve => join(opcode, rd, f3, rs1, 0, f7),
         Form::Bare => unreachable!(),
     }
 }

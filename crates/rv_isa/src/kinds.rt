@@ -42,7 +42,8 @@ pub fn loaded(op: Op, value: u32) -> u32
     }
 }
 
-/// How many bytes an instruction loads or stores: 1, 2 or 4, or 0 where it does neither.
+/// How many bytes an instruction loads or stores: 1, 2 or 4, or 0 where it does neither. An atomic
+/// has 4.
 #[inline(always)]
 pub fn mem_size(i: &Instr) -> u8
     ensures { result ≡ mem_size i.now.op }
@@ -51,6 +52,8 @@ pub fn mem_size(i: &Instr) -> u8
         Op::Lb | Op::Lbu | Op::Sb => 1,
         Op::Lh | Op::Lhu | Op::Sh => 2,
         Op::Lw | Op::Sw => 4,
+        Op::LrW | Op::ScW | Op::AmoswapW | Op::AmoaddW | Op::AmoxorW | Op::AmoandW => 4,
+        Op::AmoorW | Op::AmominW | Op::AmomaxW | Op::AmominuW | Op::AmomaxuW => 4,
         _ => 0,
     }
 }

@@ -1,4 +1,4 @@
-// The instructions of RV32IM: their words, their arithmetic and their text.
+// The instructions of RV32IMA: their words, their arithmetic and their text.
 #![tactic(auto)]
 
 pub mod arithmetic;
@@ -14,7 +14,7 @@ pub mod text;
 pub mod view;
 mod word;
 
-pub use arithmetic::alu;
+pub use arithmetic::{alu, amo};
 pub use decoded_word::DecodedWord;
 pub use decoder::decode;
 pub use encoder::encode;

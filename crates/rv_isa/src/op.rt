@@ -1,10 +1,10 @@
-// The 48 instructions, in the table's order, and their forms.
+// The 59 instructions, in the table's order, and their forms.
 ghost use Rattle.std.specs.Prelude.{◌≡◌, ◌<◌, ◌^◌};
 ghost use Rattle.rv_isa.specs.Table.{row_of};
 ghost use Rattle.rv_isa.specs.Forms.{form_of, opcode_of, f3_of, f7_of};
 ghost use Rattle.rv_isa.specs.Text.{name_of};
 
-/// An instruction's name, in the order of the tables of RV32I and of its M extension.
+/// An instruction's name, in the order of the tables of RV32I and of its M and A extensions.
 #[derive(Clone, Copy, PartialEq, Eq)]
 pub enum Op {
     Lui,
@@ -55,11 +55,23 @@ pub enum Op {
     Divu,
     Rem,
     Remu,
+    LrW,
+    ScW,
+    AmoswapW,
+    AmoaddW,
+    AmoxorW,
+    AmoandW,
+    AmoorW,
+    AmominW,
+    AmomaxW,
+    AmominuW,
+    AmomaxuW,
 }
 
 /// Where a word keeps an instruction's fields: the manual's base formats, `Shift` for an I whose
-/// immediate is an amount of 5 bits, and `Bare` for the words of fence, ecall and ebreak, which
-/// keep none.
+/// immediate is an amount of 5 bits, `Bare` for the words of fence, ecall and ebreak, which keep
+/// none, `Atomic` for an R whose upper five bits of f7 alone are fixed, and `Reserve` for an
+/// `Atomic` without rs2.
 #[derive(Clone, Copy, PartialEq, Eq)]
 pub enum Form {
     R,
@@ -70,6 +82,8 @@ pub enum Form {
     U,
     J,
     Bare,
+    Atomic,
+    Reserve,
 }
 
 impl Op {
@@ -86,6 +100,9 @@ impl Op {
             Op::Sb | Op::Sh | Op::Sw => Form::S,
             Op::Slli | Op::Srli | Op::Srai => Form::Shift,
             Op::Fence | Op::Ecall | Op::Ebreak => Form::Bare,
+            Op::LrW => Form::Reserve,
+            Op::ScW | Op::AmoswapW | Op::AmoaddW | Op::AmoxorW | Op::AmoandW => Form::Atomic,
+            Op::AmoorW | Op::AmominW | Op::AmomaxW | Op::AmominuW | Op::AmomaxuW => Form::Atomic,
             _ => Form::R,
         }
     }
@@ -106,6 +123,8 @@ impl Op {
             Op::Slli | Op::Srli | Op::Srai => 0b0010011,
             Op::Fence => 0b0001111,
             Op::Ecall | Op::Ebreak => 0,
+            Op::LrW | Op::ScW | Op::AmoswapW | Op::AmoaddW | Op::AmoxorW | Op::AmoandW => 0b0101111,
+            Op::AmoorW | Op::AmominW | Op::AmomaxW | Op::AmominuW | Op::AmomaxuW => 0b0101111,
             _ => 0b0110011,
         }
     }
@@ -117,6 +136,8 @@ impl Op {
         match self {
             Op::Bne | Op::Lh | Op::Sh | Op::Slli | Op::Sll | Op::Mulh => 0b001,
             Op::Lw | Op::Sw | Op::Slti | Op::Slt | Op::Mulhsu => 0b010,
+            Op::LrW | Op::ScW | Op::AmoswapW | Op::AmoaddW | Op::AmoxorW | Op::AmoandW => 0b010,
+            Op::AmoorW | Op::AmominW | Op::AmomaxW | Op::AmominuW | Op::AmomaxuW => 0b010,
             Op::Sltiu | Op::Sltu | Op::Mulhu => 0b011,
             Op::Blt | Op::Lbu | Op::Xori | Op::Xor | Op::Div => 0b100,
             Op::Bge | Op::Lhu | Op::Srli | Op::Srai | Op::Srl | Op::Sra | Op::Divu => 0b101,
@@ -134,6 +155,16 @@ impl Op {
             Op::Srai | Op::Sub | Op::Sra => 0b0100000,
             Op::Mul | Op::Mulh | Op::Mulhsu | Op::Mulhu => 0b0000001,
             Op::Div | Op::Divu | Op::Rem | Op::Remu => 0b0000001,
+            Op::LrW => 0b0001000,
+            Op::ScW => 0b0001100,
+            Op::AmoswapW => 0b0000100,
+            Op::AmoxorW => 0b0010000,
+            Op::AmoandW => 0b0110000,
+            Op::AmoorW => 0b0100000,
+            Op::AmominW => 0b1000000,
+            Op::AmomaxW => 0b1010000,
+            Op::AmominuW => 0b1100000,
+            Op::AmomaxuW => 0b1110000,
             _ => 0b0000000,
         }
     }
@@ -191,6 +222,17 @@ impl Op {
             Op::Divu => "divu",
             Op::Rem => "rem",
             Op::Remu => "remu",
+            Op::LrW => "lr.w",
+            Op::ScW => "sc.w",
+            Op::AmoswapW => "amoswap.w",
+            Op::AmoaddW => "amoadd.w",
+            Op::AmoxorW => "amoxor.w",
+            Op::AmoandW => "amoand.w",
+            Op::AmoorW => "amoor.w",
+            Op::AmominW => "amomin.w",
+            Op::AmomaxW => "amomax.w",
+            Op::AmominuW => "amominu.w",
+            Op::AmomaxuW => "amomaxu.w",
         }
     }
 }

@@ -6,7 +6,7 @@ ghost use Rattle.rv_isa.specs.Places.{place_of};
 use crate::op::Op;
 
 /// The names of all instructions, in the table's order.
-pub fn all_ops() -> [Op; 48]
+pub fn all_ops() -> [Op; 59]
     ensures { result ≡ ops }
 {
     [
@@ -58,6 +58,17 @@ pub fn all_ops() -> [Op; 48]
         Op::Divu,
         Op::Rem,
         Op::Remu,
+        Op::LrW,
+        Op::ScW,
+        Op::AmoswapW,
+        Op::AmoaddW,
+        Op::AmoxorW,
+        Op::AmoandW,
+        Op::AmoorW,
+        Op::AmominW,
+        Op::AmomaxW,
+        Op::AmominuW,
+        Op::AmomaxuW,
     ]
 }
 

@@ -1,7 +1,7 @@
 // The text of an instruction.
 ghost use Rattle.std.specs.Prelude.{◌≡◌, ◌++◌, IfOk, string_bytes, codes, false};
 ghost use Rattle.std.specs.Fmt.{signed_decimal, digits};
-ghost use Rattle.rv_isa.specs.Text.{text_of, listed, register, addressed};
+ghost use Rattle.rv_isa.specs.Text.{text_of, listed, register, addressed, pointed};
 
 use crate::instr::Instr;
 use crate::op::{Form, Op};
@@ -25,6 +25,8 @@ pub fn instr_text(alloc: Global, i: &Instr) -> Result<String, AllocError>
         Form::U => upper(alloc, name, i.rd, bits(i.imm.cast_unsigned(), 31, 12)),
         Form::J => jump(alloc, name, i.rd, i.imm),
         Form::Bare => String::from_str(alloc, name),
+        Form::Atomic => atomic(alloc, name, i.rd, i.rs2, i.rs1),
+        Form::Reserve => reserve(alloc, name, i.rd, i.rs1),
     }
 }
 
@@ -63,4 +65,20 @@ fn upper(alloc: Global, name: &str, a: u8, high: u32) -> Result<String, AllocErr
         ++ digits 16 false high)))) }
 {
     format!(in alloc; "{name} x{a},0x{high:x}")
+}
+
+fn atomic(alloc: Global, name: &str, a: u8, b: u8, base: u8) -> Result<String, AllocError>
+    ensures { IfOk result
+        (λ text. string_bytes text ≡ name.now
+        ++ listed (register a) (register b) (pointed base)) }
+{
+    format!(in alloc; "{name} x{a},x{b},(x{base})")
+}
+
+fn reserve(alloc: Global, name: &str, a: u8, base: u8) -> Result<String, AllocError>
+    ensures { IfOk result
+        (λ text. string_bytes text ≡ name.now ++ (codes " " ++ (register a ++ (codes ","
+        ++ pointed base)))) }
+{
+    format!(in alloc; "{name} x{a},(x{base})")
 }

@@ -1,7 +1,7 @@
 -- The loaded program: the machine at position 0, from an image and the argument strings. Its segments lie where the file
 -- says (System V ABI, chapter 5, "Program Loading"), and its stack holds the strings and what names them (System V ABI,
 -- "Process Initialization"; Linux, getauxval(3)).
-use Rattle.std.specs.Prelude.{ℕ, ◌+◌, ◌-◌, ◌*◌, ◌/◌, List, [], ◌∷◌, ◌++◌, length, map, true, false, max, replicate, slice_set, sum_by}
+use Rattle.std.specs.Prelude.{ℕ, ◌+◌, ◌-◌, ◌*◌, ◌/◌, List, [], ◌∷◌, ◌++◌, length, map, true, false, max, replicate, slice_set, sum_by, None}
 use Rattle.std.specs.List.{flat_map, fold, range_with_len}
 use Rattle.elf_load.specs.Image.{ImageFields, SegmentFields, is_readable, is_writable, is_executable}
 use Rattle.guest_model.specs.Areas.{rounded_down, rounded_up}
@@ -94,4 +94,5 @@ machine_of image args = record {
   registers = first_registers args;
   space = with_area (segments_space image.segments) stack_area (stack_pointer_of args) (first_stack image args);
   fresh = true;
+  reservation = None;
 }

@@ -10,14 +10,15 @@ use guest_mem::Space;
 use rv_isa::Instr;
 use std::marker::Model;
 
-/// A guest's machine. Contracts see it as one value: pc, registers, memory, and whether its last
-/// instruction ended a block.
+/// A guest's machine. Contracts see it as one value: pc, registers, memory, whether its last
+/// instruction ended a block, and the address that is reserved.
 #[derive(Drop)]
 pub struct Guest {
     pub(crate) pc: u32,
     pub(crate) registers: [u32; 32],
     pub(crate) memory: Space,
     pub(crate) fresh: bool,
+    pub(crate) reservation: Option<u32>,
 }
 
 impl Model for Guest {
@@ -29,7 +30,7 @@ impl Model for Guest {
     ghost coded = { guest_code };
 
     ghost view = { λ g. record {
-      machine = record { pc = g.pc; registers = g.registers; space = g.memory.space; fresh = g.fresh };
+      machine = record { pc = g.pc; registers = g.registers; space = g.memory.space; fresh = g.fresh; reservation = g.reservation };
       frames = g.memory.frames;
       origin = g.memory.origin;
       changed = g.memory.changed;
@@ -68,6 +69,13 @@ impl Guest {
         self.fresh
     }
 
+    /// The address that lr.w reserved. None where nothing is reserved.
+    pub fn reserved(&self) -> Option<u32>
+        ensures { result ≡ self.now.machine.reservation }
+    {
+        self.reservation
+    }
+
     /// The instruction at pc. None where the fetch is denied or the word has no row in the table.
     pub fn peek(&self) -> Option<Instr>
         ensures { result ≡ instruction_at self.now.machine }
@@ -93,7 +101,7 @@ impl Guest {
         &mut self.memory
     }
 
-    /// Goes on behind the call at pc, with its result in x10.
+    /// Goes on behind the call at pc, with its result in x10. Nothing is reserved from then on.
     #[tactic(auto, unfolding(guest_model::specs::Call::finished))]
     pub fn finish_call(&mut self, answer: u32)
         ensures machine { self.new.machine ≡ finished self.old.machine answer }
@@ -103,6 +111,7 @@ impl Guest {
         self.registers[10] = answer;
         self.pc = self.pc.wrapping_add(4);
         self.fresh = true;
+        self.reservation = None;
     }
 }
 

@@ -63,6 +63,7 @@ impl Guest {
             registers,
             memory: segments_space(alloc, image, frames)?,
             fresh: true,
+            reservation: None,
         };
         guest.memory.add_area(STACK, pointer, &stack)?;
         Ok(guest)

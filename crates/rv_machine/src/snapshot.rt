@@ -19,6 +19,7 @@ pub struct Snapshot {
     registers: [u32; 32],
     memory: FrozenSpace,
     fresh: bool,
+    reservation: Option<u32>,
 }
 
 impl Model for Snapshot {
@@ -30,7 +31,7 @@ impl Model for Snapshot {
     ghost coded = { snapshot_code };
 
     ghost view = { λ s. record {
-      machine = record { pc = s.pc; registers = s.registers; space = s.memory.space; fresh = s.fresh };
+      machine = record { pc = s.pc; registers = s.registers; space = s.memory.space; fresh = s.fresh; reservation = s.reservation };
       changed = s.memory.changed;
     } };
 
@@ -94,6 +95,7 @@ impl Guest {
             registers: self.registers,
             memory,
             fresh: self.fresh,
+            reservation: self.reservation,
         })
     }
 
@@ -108,6 +110,7 @@ impl Guest {
             registers: from.registers,
             memory,
             fresh: from.fresh,
+            reservation: from.reservation,
         })
     }
 
@@ -120,6 +123,7 @@ impl Guest {
     {
         self.pc == end.pc
             && self.fresh == end.fresh
+            && self.reservation == end.reservation
             && self.registers == end.registers
             && self.memory.same_as(&base.memory, &end.memory)
     }

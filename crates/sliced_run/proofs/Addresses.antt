@@ -7,12 +7,12 @@ use Rattle.rv_isa.specs.Decoded.{decoded}
 use Rattle.rv_isa.specs.Kinds.{is_taken, mem_size}
 use Rattle.rv_isa.specs.Table.{Fields}
 use Rattle.rv_isa.specs.declared.op.Op.{Op}
-use Rattle.rv_isa.specs.declared.op.Op.TheVariants.{Lui, Auipc, Jal, Jalr, Beq, Bne, Blt, Bge, Bltu, Bgeu, Lb, Lbu, Lh, Lhu, Lw, Sb, Sh, Sw, Fence, Ecall, Ebreak}
+use Rattle.rv_isa.specs.declared.op.Op.TheVariants.{Lui, Auipc, Jal, Jalr, Beq, Bne, Blt, Bge, Bltu, Bgeu, Lb, Lbu, Lh, Lhu, Lw, Sb, Sh, Sw, Fence, Ecall, Ebreak, LrW, ScW, AmoswapW, AmoaddW, AmoxorW, AmoandW, AmoorW, AmominW, AmomaxW, AmominuW, AmomaxuW}
 use Rattle.guest_model.specs.Call.{Called, Went, Exits, World, call_with, call_of, finished}
 use Rattle.guest_model.specs.Call as calls
 use Rattle.guest_model.specs.Calls.{Deed, Answers, Takes, Sends, Tells, Maps, Ends, deed_of}
-use Rattle.guest_model.specs.Effect.{Effect, Next, Call, Fault, rs1_value, rs2_value, address, target, goes_on, passes, writes_some, branches, loads, loads_some, stores, stores_some, machine_at, machine_with, misaligned, effect_by, effect_of, effect_of_instruction, effect_of_word}
-use Rattle.guest_model.specs.Machine.{Machine, following}
+use Rattle.guest_model.specs.Effect.{Effect, Next, Call, Fault, rs1_value, rs2_value, address, target, goes_on, passes, writes_some, branches, loads, loads_some, stores, stores_some, reserves_some, swaps_into, swaps_some, stores_reserved, conditional_some, machine_at, machine_with, misaligned, effect_by, effect_of, effect_of_instruction, effect_of_word}
+use Rattle.guest_model.specs.Machine.{Machine, following, is_reserved}
 use Rattle.guest_model.specs.Runs.{RunState, Running, Ended, here}
 use Rattle.guest_model.specs.Serial.{Position, End, TraceItem, completed, item_at, run_of, step_of, trace_of}
 use Rattle.guest_model.specs.Serial as serial
@@ -63,6 +63,31 @@ by_load m i = loaded m i (read_number Read m.space (address m i) (mem_size i.op)
 by_store : (m : Machine) (i : Fields) → LeavesAddress (stores m i)
 by_store m i = stored m i (write_number m.space (address m i) (mem_size i.op) (rs2_value m i))
 
+is_aligned : (e : Effect) (b : Bool) → LeavesAddress e → LeavesAddress (cond b e (Fault misaligned))
+is_aligned e true leaves = leaves
+is_aligned e false leaves = tt
+
+reserved : (m : Machine) (i : Fields) (o : Option ℕ) → LeavesAddress (reserves_some m i o)
+reserved m i None = tt
+reserved m i (Some v) = wraps _
+
+swapped_into : (m : Machine) (i : Fields) (v : ℕ) (s : Option Space) → LeavesAddress (swaps_into m i v s)
+swapped_into m i v None = tt
+swapped_into m i v (Some s) = wraps _
+
+swapped : (m : Machine) (i : Fields) (o : Option ℕ) → LeavesAddress (swaps_some m i o)
+swapped m i None = tt
+swapped m i (Some v) = swapped_into m i v _
+
+stored_reserved : (m : Machine) (i : Fields) (is : Bool) (s : Option Space) → LeavesAddress (stores_reserved m i is s)
+stored_reserved m i is None = tt
+stored_reserved m i true (Some s) = wraps _
+stored_reserved m i false (Some s) = wraps _
+
+conditional : (m : Machine) (i : Fields) (o : Option ℕ) → LeavesAddress (conditional_some m i o)
+conditional m i None = tt
+conditional m i (Some v) = stored_reserved m i _ _
+
 by_row : (op : Op) (m : Machine) (i : Fields) → LeavesAddress (effect_by op m i)
 by_row Lui m i = wraps _
 by_row Auipc m i = wraps _
@@ -85,6 +110,17 @@ by_row Sw m i = by_store m i
 by_row Fence m i = wraps _
 by_row Ecall m i = tt
 by_row Ebreak m i = tt
+by_row LrW m i = is_aligned _ _ (reserved m i _)
+by_row ScW m i = is_aligned _ _ (conditional m i _)
+by_row AmoswapW m i = is_aligned _ _ (swapped m i _)
+by_row AmoaddW m i = is_aligned _ _ (swapped m i _)
+by_row AmoxorW m i = is_aligned _ _ (swapped m i _)
+by_row AmoandW m i = is_aligned _ _ (swapped m i _)
+by_row AmoorW m i = is_aligned _ _ (swapped m i _)
+by_row AmominW m i = is_aligned _ _ (swapped m i _)
+by_row AmomaxW m i = is_aligned _ _ (swapped m i _)
+by_row AmominuW m i = is_aligned _ _ (swapped m i _)
+by_row AmomaxuW m i = is_aligned _ _ (swapped m i _)
 by_row _ m i = computed m i _
 
 by_instruction : (m : Machine) (i : Option Fields) → LeavesAddress (effect_of_instruction m i)

@@ -2,7 +2,7 @@
 ghost use Rattle.std.specs.Prelude.{◌≡◌, ◌++◌, ◌<◌, ◌^◌, OnOk, codes, false, option_and_then};
 ghost use Rattle.std.specs.Fmt.{decimal, digits, signed_decimal};
 ghost use Rattle.rv_isa.specs.Table.{row_of};
-ghost use Rattle.rv_isa.specs.Text.{addressed, arguments, listed, register, text_of};
+ghost use Rattle.rv_isa.specs.Text.{addressed, arguments, listed, pointed, register, text_of};
 ghost use Rattle.sp_report.specs.Instruction.{lists_fields};
 
 use crate::digits::hex_digit;
@@ -101,6 +101,38 @@ fn push_upper(text: &mut Vec<u8>, a: u8, high: u32) -> Result<(), AllocError>
     push_hex(text, high)
 }
 
+// Adds ` xA,xB,(xC)`.
+fn push_atomic(text: &mut Vec<u8>, a: u8, b: u8, base: u8) -> Result<(), AllocError>
+    ensures { OnOk result (text.new.items ≡ text.old.items ++ listed (register a) (register b) (pointed base)) }
+{
+    text.push(b' ')?;
+    push_register(text, a)?;
+    text.push(b',')?;
+    push_register(text, b)?;
+    text.push(b',')?;
+    push_pointed(text, base)
+}
+
+// Adds ` xA,(xB)`.
+fn push_reserve(text: &mut Vec<u8>, a: u8, base: u8) -> Result<(), AllocError>
+    ensures { OnOk result (text.new.items ≡ text.old.items ++ (codes " " ++ (register a ++ (codes "," ++ pointed base)))) }
+{
+    text.push(b' ')?;
+    push_register(text, a)?;
+    text.push(b',')?;
+    push_pointed(text, base)
+}
+
+// Adds `(xA)`.
+fn push_pointed(text: &mut Vec<u8>, base: u8) -> Result<(), AllocError>
+    ensures { OnOk result (text.new.items ≡ text.old.items ++ pointed base) }
+{
+    text.push(b'(')?;
+    push_register(text, base)?;
+    text.push(b')')?;
+    Ok(())
+}
+
 // Whether an instruction with an immediate lists its fields: those that compute do, and the others have an address.
 fn is_listed(op: Op) -> bool
     ensures { result ≡ lists_fields op }
@@ -125,6 +157,8 @@ fn push_arguments(text: &mut Vec<u8>, i: &Instr) -> Result<(), AllocError>
         Form::U => push_upper(text, i.rd, i.imm.cast_unsigned() >> 12),
         Form::J => push_jump(text, i.rd, i.imm),
         Form::Bare => Ok(()),
+        Form::Atomic => push_atomic(text, i.rd, i.rs2, i.rs1),
+        Form::Reserve => push_reserve(text, i.rd, i.rs1),
     }
 }
 

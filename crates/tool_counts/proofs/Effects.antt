@@ -2,16 +2,16 @@
 use Rattle.std.proofs.Common.{◌≡◌, ℕ, refl, ap, sym, subst, ◌∙◌}
 use Rattle.std.specs.Prelude.{Bool, true, false, ◌==◌, ◌%◌, Option, None, Some, option_and_then, if◌then◌else◌}
 use Rattle.std.proofs.lemmas.Bool.{true≢false}
-use Rattle.rv_isa.specs.Arithmetic.{alu_of}
+use Rattle.rv_isa.specs.Arithmetic.{alu_of, amo_of}
 use Rattle.rv_isa.specs.Decoded.{decoded}
 use Rattle.rv_isa.specs.Kinds.{ends_block, is_taken, mem_size}
 use Rattle.rv_isa.specs.Table.{Fields}
 use Rattle.rv_isa.specs.declared.op.Op.{Op}
-use Rattle.rv_isa.specs.declared.op.Op.TheVariants.{Lui, Auipc, Jal, Jalr, Beq, Bne, Blt, Bge, Bltu, Bgeu, Lb, Lh, Lw, Lbu, Lhu, Sb, Sh, Sw, Addi, Slti, Sltiu, Xori, Ori, Andi, Slli, Srli, Srai, Add, Sub, Sll, Slt, Sltu, Xor, Srl, Sra, Or, And, Fence, Ecall, Ebreak, Mul, Mulh, Mulhsu, Mulhu, Div, Divu, Rem, Remu}
+use Rattle.rv_isa.specs.declared.op.Op.TheVariants.{Lui, Auipc, Jal, Jalr, Beq, Bne, Blt, Bge, Bltu, Bgeu, Lb, Lh, Lw, Lbu, Lhu, Sb, Sh, Sw, Addi, Slti, Sltiu, Xori, Ori, Andi, Slli, Srli, Srai, Add, Sub, Sll, Slt, Sltu, Xor, Srl, Sra, Or, And, Fence, Ecall, Ebreak, Mul, Mulh, Mulhsu, Mulhu, Div, Divu, Rem, Remu, LrW, ScW, AmoswapW, AmoaddW, AmoxorW, AmoandW, AmoorW, AmominW, AmomaxW, AmominuW, AmomaxuW}
 use Rattle.guest_model.specs.Call.{call_of, call_with, finished}
 use Rattle.guest_model.specs.Calls.{Deed, Answers, Takes, Sends, Tells, Maps, Ends, deed_of}
-use Rattle.guest_model.specs.Effect.{Effect, Next, Call, Fault, address, branches, computes, effect_by, effect_of, effect_of_instruction, effect_of_word, jumps, loads, loads_some, rs1_value, rs2_value, stores, stores_some, target, writes, writes_some, passes, goes_on, machine_at, machine_with, immediate, even, misaligned}
-use Rattle.guest_model.specs.Machine.{Machine, following, instruction_at}
+use Rattle.guest_model.specs.Effect.{Effect, Next, Call, Fault, address, branches, computes, effect_by, effect_of, effect_of_instruction, effect_of_word, jumps, loads, loads_some, rs1_value, rs2_value, stores, stores_some, aligned, reserves, reserves_some, swaps, swaps_into, swaps_some, stores_conditionally, stores_reserved, conditional_some, target, writes, writes_some, passes, goes_on, machine_at, machine_with, immediate, even, misaligned}
+use Rattle.guest_model.specs.Machine.{Machine, following, instruction_at, is_reserved}
 use Rattle.guest_model.specs.Runs.{RunState, Running, Ended}
 use Rattle.guest_model.specs.Serial.{End, Exit, Signal, Position, step_by, step_by_call, step_of}
 use Rattle.guest_model.specs.Space.{Space, read_number, write_number}
@@ -83,6 +83,36 @@ branches_keeps m i ends =
     (either_keeps m i (target m i % 4 == 0) (goes_on (machine_at m i (target m i))) (Fault misaligned) (anywhere m i (machine_at m i (target m i)) ends refl) tt)
     (anywhere m i (machine_at m i (following m)) ends refl)
 
+reserves_keeps : (m : Machine) (i : Fields) → Keeps m i (aligned m i (reserves m i))
+reserves_keeps m i = either_keeps m i (address m i % 4 == 0) (reserves m i) (Fault misaligned) (go (read_number Read m.space (address m i) 4)) tt
+  where
+    go : (r : Option ℕ) → Keeps m i (reserves_some m i r)
+    go None = tt
+    go (Some v) = record { fresh = refl; pc = λ _. refl }
+
+swaps_keeps : (m : Machine) (i : Fields) → Keeps m i (aligned m i (swaps m i))
+swaps_keeps m i = either_keeps m i (address m i % 4 == 0) (swaps m i) (Fault misaligned) (go (read_number Read m.space (address m i) 4)) tt
+  where
+    into : (v : ℕ) (s : Option Space) → Keeps m i (swaps_into m i v s)
+    into v None = tt
+    into v (Some s) = record { fresh = refl; pc = λ _. refl }
+
+    go : (r : Option ℕ) → Keeps m i (swaps_some m i r)
+    go None = tt
+    go (Some v) = into v (write_number m.space (address m i) 4 (amo_of i.op v (rs2_value m i)))
+
+conditional_keeps : (m : Machine) (i : Fields) → Keeps m i (aligned m i (stores_conditionally m i))
+conditional_keeps m i = either_keeps m i (address m i % 4 == 0) (stores_conditionally m i) (Fault misaligned) (go (read_number Read m.space (address m i) 4)) tt
+  where
+    by : (is : Bool) (s : Option Space) → Keeps m i (stores_reserved m i is s)
+    by is None = tt
+    by true (Some s) = record { fresh = refl; pc = λ _. refl }
+    by false (Some s) = record { fresh = refl; pc = λ _. refl }
+
+    go : (r : Option ℕ) → Keeps m i (conditional_some m i r)
+    go None = tt
+    go (Some v) = by (is_reserved m.reservation (address m i)) (write_number m.space (address m i) 4 (rs2_value m i))
+
 row_keeps : (op : Op) (m : Machine) (i : Fields) → i.op ≡ op → Keeps m i (effect_by op m i)
 row_keeps Lui m i is = writes_keeps m i (immediate i)
 row_keeps Auipc m i is = writes_keeps m i (target m i)
@@ -132,6 +162,17 @@ row_keeps Div m i is = computes_keeps m i (rs2_value m i)
 row_keeps Divu m i is = computes_keeps m i (rs2_value m i)
 row_keeps Rem m i is = computes_keeps m i (rs2_value m i)
 row_keeps Remu m i is = computes_keeps m i (rs2_value m i)
+row_keeps LrW m i is = reserves_keeps m i
+row_keeps ScW m i is = conditional_keeps m i
+row_keeps AmoswapW m i is = swaps_keeps m i
+row_keeps AmoaddW m i is = swaps_keeps m i
+row_keeps AmoxorW m i is = swaps_keeps m i
+row_keeps AmoandW m i is = swaps_keeps m i
+row_keeps AmoorW m i is = swaps_keeps m i
+row_keeps AmominW m i is = swaps_keeps m i
+row_keeps AmomaxW m i is = swaps_keeps m i
+row_keeps AmominuW m i is = swaps_keeps m i
+row_keeps AmomaxuW m i is = swaps_keeps m i
 
 -- the effect of the instruction at pc
 effect_here : (m : Machine) (i : Fields) → instruction_at m ≡ Some i → effect_of m ≡ effect_by i.op m i

@@ -30,5 +30,5 @@ zeros_at zero k = refl
 zeros_at (suc n) zero = refl
 zeros_at (suc n) (suc k) = zeros_at n k
 
-pub none : IsMix [] (replicate 48 0)
-none = record { same = λ k small. zeros_at 48 k }
+pub none : IsMix [] (replicate 59 0)
+none = record { same = λ k small. zeros_at 59 k }

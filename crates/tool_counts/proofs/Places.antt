@@ -1,10 +1,10 @@
--- The table has 48 names.
+-- The table has 59 names.
 use Rattle.std.proofs.Common.{◌<◌, arith}
 use Rattle.rv_isa.specs.declared.op.Op.{Op}
-use Rattle.rv_isa.specs.declared.op.Op.TheVariants.{Lui, Auipc, Jal, Jalr, Beq, Bne, Blt, Bge, Bltu, Bgeu, Lb, Lh, Lw, Lbu, Lhu, Sb, Sh, Sw, Addi, Slti, Sltiu, Xori, Ori, Andi, Slli, Srli, Srai, Add, Sub, Sll, Slt, Sltu, Xor, Srl, Sra, Or, And, Fence, Ecall, Ebreak, Mul, Mulh, Mulhsu, Mulhu, Div, Divu, Rem, Remu}
+use Rattle.rv_isa.specs.declared.op.Op.TheVariants.{Lui, Auipc, Jal, Jalr, Beq, Bne, Blt, Bge, Bltu, Bgeu, Lb, Lh, Lw, Lbu, Lhu, Sb, Sh, Sw, Addi, Slti, Sltiu, Xori, Ori, Andi, Slli, Srli, Srai, Add, Sub, Sll, Slt, Sltu, Xor, Srl, Sra, Or, And, Fence, Ecall, Ebreak, Mul, Mulh, Mulhsu, Mulhu, Div, Divu, Rem, Remu, LrW, ScW, AmoswapW, AmoaddW, AmoxorW, AmoandW, AmoorW, AmominW, AmomaxW, AmominuW, AmomaxuW}
 use Rattle.rv_isa.specs.Places.{place_of}
 
-pub place_fits : (op : Op) → place_of op < 48
+pub place_fits : (op : Op) → place_of op < 59
 place_fits Lui = omega arith
 place_fits Auipc = omega arith
 place_fits Jal = omega arith
@@ -53,3 +53,14 @@ place_fits Div = omega arith
 place_fits Divu = omega arith
 place_fits Rem = omega arith
 place_fits Remu = omega arith
+place_fits LrW = omega arith
+place_fits ScW = omega arith
+place_fits AmoswapW = omega arith
+place_fits AmoaddW = omega arith
+place_fits AmoxorW = omega arith
+place_fits AmoandW = omega arith
+place_fits AmoorW = omega arith
+place_fits AmominW = omega arith
+place_fits AmomaxW = omega arith
+place_fits AmominuW = omega arith
+place_fits AmomaxuW = omega arith

@@ -28,9 +28,9 @@ mix_line op n = if n == 0 then [] else codes "mix " ++ (name_of op ++ (codes " "
 unfoldable pub mix_text : (Op → ℕ) → List ℕ
 mix_text mix = flat_map (λ op. mix_line op (mix op)) ops
 
--- 48 numbers stand for the events
+-- 59 numbers stand for the events
 pub record IsMix (xs : List Event) (counts : List ℕ) : Type 0 where
-  pub same : (k : ℕ) → k < 48 → slice_index counts k ≡ count_at xs k
+  pub same : (k : ℕ) → k < 59 → slice_index counts k ≡ count_at xs k
 
 pub IsMix-prop : (xs : List Event) (counts : List ℕ) → IsProp (IsMix xs counts)
 IsMix-prop xs counts = hlevel props

@@ -18,15 +18,15 @@ use tool_parts::{ask, one_arg, push_number};
 pub struct OpMix;
 
 /// How many instructions there were of each name, by its place in the table.
-pub type OpCounts = [u64; 48];
+pub type OpCounts = [u64; 59];
 
 // Counts one more at a place.
 #[inline(always)]
 fn note_place(counts: &mut OpCounts, place: u32)
-    ensures { (k : ℕ) → k < 48 → slice_index counts.new k
+    ensures { (k : ℕ) → k < 59 → slice_index counts.new k
         ≡ (if k == place then (slice_index counts.old k + 1) % 2 ^ 64 else slice_index counts.old k) }
 {
-    if place < 48 {
+    if place < 59 {
         let at = place as usize;
         counts[at] = counts[at].wrapping_add(1);
     }
@@ -34,10 +34,10 @@ fn note_place(counts: &mut OpCounts, place: u32)
 
 // Adds each of the counts.
 fn add_counts(counts: &mut OpCounts, more: &OpCounts)
-    ensures { (k : ℕ) → k < 48 → slice_index counts.new k
+    ensures { (k : ℕ) → k < 59 → slice_index counts.new k
         ≡ (slice_index counts.old k + slice_index more.now k) % 2 ^ 64 }
 {
-    for k in 0..48 {
+    for k in 0..59 {
         counts[k] = counts[k].wrapping_add(more[k]);
     }
 }
@@ -69,9 +69,9 @@ fn push_lines(out: &mut Vec<u8>, counts: &OpCounts) -> Result<(), AllocError>
 }
 
 impl Tool for OpMix {
-    type Local = [u64; 48];
+    type Local = [u64; 59];
 
-    type Shared = [u64; 48];
+    type Shared = [u64; 59];
 
     const GROWS: bool = false;
 
@@ -103,11 +103,11 @@ impl Tool for OpMix {
     }
 
     fn start(&self, _alloc: Global, _views: &Views) -> Result<OpCounts, AllocError> {
-        Ok([0; 48])
+        Ok([0; 59])
     }
 
     fn begin(&self, _alloc: Global) -> Result<OpCounts, AllocError> {
-        Ok([0; 48])
+        Ok([0; 59])
     }
 
     #[inline(always)]
