@@ -6,7 +6,7 @@ use Rattle.rv_isa.specs.Kinds.{is_taken, mem_size}
 use Rattle.rv_isa.specs.Table.{Fields}
 use Rattle.rv_isa.specs.declared.op.Op.{Op}
 use Rattle.rv_isa.specs.declared.op.Op.TheVariants.{Lui, Auipc, Jal, Jalr, Beq, Bne, Blt, Bge, Bltu, Bgeu, Lb, Lbu, Lh, Lhu, Lw, Sb, Sh, Sw, Fence, Ecall, Ebreak, LrW, ScW, AmoswapW, AmoaddW, AmoxorW, AmoandW, AmoorW, AmominW, AmomaxW, AmominuW, AmomaxuW}
-use Rattle.guest_model.specs.Effect.{Effect, Next, Call, Fault, rs1_value, rs2_value, address, target, goes_on, passes, writes_some, branches, loads, loads_some, stores, stores_some, reserves, reserves_some, swaps, swaps_into, swaps_some, stores_conditionally, stores_reserved, conditional_some, machine_at, machine_with, misaligned, effect_by, effect_of, effect_of_instruction, effect_of_word}
+use Rattle.guest_model.specs.Effect.{Effect, Next, Call, Fault, rs1_value, rs2_value, address, target, goes_on, passes, writes_some, branches, loads, loads_some, stores, stores_some, reserves_some, swaps, swaps_into, swaps_some, stores_conditionally, stores_reserved, conditional_some, machine_at, machine_with, misaligned, effect_by, effect_of, effect_of_instruction, effect_of_word}
 use Rattle.guest_model.specs.Machine.{Machine, following, is_reserved}
 use Rattle.guest_model.specs.Range.{Range, range}
 use Rattle.guest_model.specs.Space.{Space, read_number, write_number}

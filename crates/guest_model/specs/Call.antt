@@ -44,7 +44,7 @@ space_by deed s = s
 abbrev pub space_after : Deed → Space → List Stored → Space
 space_after deed s stored = with_bytes (space_by deed s) (store_all (space_by deed s).bytes stored)
 
--- and the machine goes on behind the call, with its result in x10
+-- and the machine goes on behind the call, with its result in x10, and with nothing reserved
 unfoldable pub finished : Machine → ℕ → Machine
 finished m answer = record m { pc = following m; registers = slice_set m.registers 10 answer; fresh = true; reservation = None }
 

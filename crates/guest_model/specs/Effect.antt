@@ -1,4 +1,5 @@
--- What one instruction does to a machine (RISC-V unprivileged manual, "RV32I Base Integer Instruction Set" and the M and A extensions).
+-- What one instruction does to a machine (RISC-V unprivileged manual, "RV32I Base Integer Instruction Set" and the M and A
+-- extensions).
 use Rattle.std.specs.Prelude.{ℕ, ◌+◌, ◌*◌, ◌/◌, ◌%◌, ◌==◌, Bool, true, false, List, [], ◌∷◌, Option, Some, None, if◌then◌else◌}
 use Rattle.rv_isa.specs.Word.{unsigned_of}
 use Rattle.rv_isa.specs.Table.{Fields}
@@ -44,7 +45,7 @@ rs2_value m i = register m i.rs2
 abbrev pub immediate : Fields → ℕ
 immediate i = unsigned_of i.imm
 
--- where a load or store goes, and where a jump by a register goes before its lowest bit is cleared
+-- where a load, a store or an atomic goes, and where a jump by a register goes before its lowest bit is cleared
 abbrev pub address : Machine → Fields → ℕ
 address m i = wrap (rs1_value m i + immediate i)
 
@@ -62,6 +63,10 @@ machine_at m i next = record m { pc = next; fresh = ends_block i.op }
 -- the same with a value in rd
 abbrev pub machine_with : Machine → Fields → ℕ → ℕ → Machine
 machine_with m i value next = record m { pc = next; registers = put i.rd value m.registers; fresh = ends_block i.op }
+
+-- behind this instruction, with a value in rd, where this is reserved from then on
+abbrev pub machine_reserving : Machine → Fields → ℕ → Option ℕ → Machine
+machine_reserving m i value reservation = record (machine_with m i value (following m)) { reservation = reservation }
 
 -- the instruction completed, and stored nothing
 abbrev pub goes_on : Machine → Effect
@@ -111,24 +116,25 @@ stores_some m i (Some s) =
 abbrev pub stores : Machine → Fields → Effect
 stores m i = stores_some m i (write_number m.space (address m i) (mem_size i.op) (rs2_value m i))
 
--- an atomic's address must be a multiple of 4, whatever may be done there ("Load-Reserved/Store-Conditional Instructions",
--- "Atomic Memory Operations")
+-- An atomic's address must be a multiple of 4, which is tested before any permission. The manual's A extension
+-- ("Load-Reserved/Store-Conditional Instructions", "Atomic Memory Operations") asks for an exception where it is not; that it
+-- is this one is a choice of the project's own, as are the permissions below.
 abbrev pub aligned : Machine → Fields → Effect → Effect
 aligned m i does = if address m i % 4 == 0 then does else Fault misaligned
 
--- rd gets the word, and its address is reserved
+-- lr.w, which needs that the word may be read: rd gets it, and its address is reserved
 abbrev pub reserves_some : Machine → Fields → Option ℕ → Effect
 reserves_some m i None = Fault access
-reserves_some m i (Some v) = goes_on (record m { pc = following m; registers = put i.rd v m.registers; fresh = ends_block i.op; reservation = Some (address m i) })
+reserves_some m i (Some v) = goes_on (machine_reserving m i v (Some (address m i)))
 
 abbrev pub reserves : Machine → Fields → Effect
 reserves m i = reserves_some m i (read_number Read m.space (address m i) 4)
 
--- rd gets the word that was read, and what the instruction makes of it and of rs2 is stored
+-- An atomic memory operation, which needs that the word may be read and written: rd gets the word, and what the operation
+-- makes of it and of rs2, as it was before, goes to memory. What is reserved stays so.
 abbrev pub swaps_into : Machine → Fields → ℕ → Option Space → Effect
 swaps_into m i v None = Fault access
-swaps_into m i v (Some s) =
-    Next (record m { pc = following m; registers = put i.rd v m.registers; space = s; fresh = ends_block i.op }) (range (address m i) 4 ∷ [])
+swaps_into m i v (Some s) = Next (record (machine_with m i v (following m)) { space = s }) (range (address m i) 4 ∷ [])
 
 abbrev pub swaps_some : Machine → Fields → Option ℕ → Effect
 swaps_some m i None = Fault access
@@ -137,13 +143,12 @@ swaps_some m i (Some v) = swaps_into m i v (write_number m.space (address m i) 4
 abbrev pub swaps : Machine → Fields → Effect
 swaps m i = swaps_some m i (read_number Read m.space (address m i) 4)
 
--- rs2 is stored where the address is reserved, and rd gets 0, else 1; nothing is reserved any longer. Both permissions are
--- needed in both cases
+-- sc.w, which needs that the word may be read and written, also where it stores nothing: where its address is reserved, rs2
+-- goes to memory and rd gets 0, else rd gets 1; and nothing is reserved from then on
 abbrev pub stores_reserved : Machine → Fields → Bool → Option Space → Effect
 stores_reserved m i reserved None = Fault access
-stores_reserved m i true (Some s) =
-    Next (record m { pc = following m; registers = put i.rd 0 m.registers; space = s; fresh = ends_block i.op; reservation = None }) (range (address m i) 4 ∷ [])
-stores_reserved m i false (Some s) = goes_on (record m { pc = following m; registers = put i.rd 1 m.registers; fresh = ends_block i.op; reservation = None })
+stores_reserved m i true (Some s) = Next (record (machine_reserving m i 0 None) { space = s }) (range (address m i) 4 ∷ [])
+stores_reserved m i false (Some s) = goes_on (machine_reserving m i 1 None)
 
 abbrev pub conditional_some : Machine → Fields → Option ℕ → Effect
 conditional_some m i None = Fault access

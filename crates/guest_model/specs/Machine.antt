@@ -1,5 +1,5 @@
 -- A guest's machine: one hart of RV32IMA with its memory (RISC-V unprivileged manual, "Programmers' Model for Base Integer ISA").
-use Rattle.std.specs.Prelude.{ℕ, ◌+◌, ◌==◌, Bool, true, false, List, Option, None, Some, slice_index, slice_set, if◌then◌else◌, option_and_then, refl}
+use Rattle.std.specs.Prelude.{ℕ, ◌+◌, ◌==◌, Bool, false, List, Option, None, Some, slice_index, slice_set, if◌then◌else◌, option_and_then, refl}
 use Rattle.std.specs.Coded.{Coded, coded_ℕ, coded_bool, coded_list, coded_option, coded×, code_by}
 use Rattle.rv_isa.specs.Table.{Fields}
 use Rattle.rv_isa.specs.Decoded.{decoded}
@@ -15,14 +15,14 @@ pub record Machine : Type 0 where
   pub space : Space
   -- the last instruction ended a block, or none has run
   pub fresh : Bool
-  -- the address that lr.w reserved, where nothing has ended the reservation since (the manual, "Load-Reserved/Store-Conditional")
+  -- the address that lr.w reserved, where no sc.w and no call came since ("Load-Reserved/Store-Conditional Instructions")
   pub reservation : Option ℕ
 
 -- the value of a register
 abbrev pub register : Machine → ℕ → ℕ
 register m n = slice_index m.registers n
 
--- whether this address is reserved
+-- whether this address is the one that is reserved
 abbrev pub is_reserved : Option ℕ → ℕ → Bool
 is_reserved None a = false
 is_reserved (Some reserved) a = reserved == a

@@ -9,18 +9,12 @@ use Rattle.rv_isa.proofs.Unique.{same_fields}
 use Rattle.rv_isa.specs.declared.op.Op.{Op}
 use Rattle.rv_isa.specs.declared.op.Op.TheVariants.{Lui, Auipc, Jal, Jalr, Beq, Bne, Blt, Bge, Bltu, Bgeu, Lb, Lh, Lw, Lbu, Lhu, Sb, Sh, Sw, Addi, Slti, Sltiu, Xori, Ori, Andi, Slli, Srli, Srai, Add, Sub, Sll, Slt, Sltu, Xor, Srl, Sra, Or, And, Fence, Ecall, Ebreak, Mul, Mulh, Mulhsu, Mulhu, Div, Divu, Rem, Remu, LrW, ScW, AmoswapW, AmoaddW, AmoxorW, AmoandW, AmoorW, AmominW, AmomaxW, AmominuW, AmomaxuW}
 
--- the words of ecall and ebreak have another opcode than mul and its kin
-is_no_call : (word : ℕ) → bits word 6 0 ≡ 0b0110011 → (word == 0x00000073) ≡ false
-is_no_call word h = grind (arith, nat_tests)
+-- the words of ecall and ebreak have an opcode that no other row has
+is_no_call : (word opcode : ℕ) → bits word 6 0 ≡ opcode → (opcode == 0b1110011) ≡ false → (word == 0x00000073) ≡ false
+is_no_call word opcode h other = grind (arith, nat_tests)
 
-is_no_break : (word : ℕ) → bits word 6 0 ≡ 0b0110011 → (word == 0x00100073) ≡ false
-is_no_break word h = grind (arith, nat_tests)
-
-is_no_atomic_call : (word : ℕ) → bits word 6 0 ≡ 0b0101111 → (word == 0x00000073) ≡ false
-is_no_atomic_call word h = grind (arith, nat_tests)
-
-is_no_atomic_break : (word : ℕ) → bits word 6 0 ≡ 0b0101111 → (word == 0x00100073) ≡ false
-is_no_atomic_break word h = grind (arith, nat_tests)
+is_no_break : (word opcode : ℕ) → bits word 6 0 ≡ opcode → (opcode == 0b1110011) ≡ false → (word == 0x00100073) ≡ false
+is_no_break word opcode h other = grind (arith, nat_tests)
 
 -- the first row of a word is the one that it has
 first_op_is : (op : Op) (word : ℕ) → IsFixed (row_of op) word → first_op word ops ≡ Some op
@@ -64,25 +58,25 @@ first_op_is And word h = simp (h.0, h.1, h.2)
 first_op_is Fence word h = simp (h.0, h.1)
 first_op_is Ecall word h = simp h
 first_op_is Ebreak word h = simp h
-first_op_is Mul word h = simp (is_no_call word h.0, is_no_break word h.0, h.0, h.1, h.2)
-first_op_is Mulh word h = simp (is_no_call word h.0, is_no_break word h.0, h.0, h.1, h.2)
-first_op_is Mulhsu word h = simp (is_no_call word h.0, is_no_break word h.0, h.0, h.1, h.2)
-first_op_is Mulhu word h = simp (is_no_call word h.0, is_no_break word h.0, h.0, h.1, h.2)
-first_op_is Div word h = simp (is_no_call word h.0, is_no_break word h.0, h.0, h.1, h.2)
-first_op_is Divu word h = simp (is_no_call word h.0, is_no_break word h.0, h.0, h.1, h.2)
-first_op_is Rem word h = simp (is_no_call word h.0, is_no_break word h.0, h.0, h.1, h.2)
-first_op_is Remu word h = simp (is_no_call word h.0, is_no_break word h.0, h.0, h.1, h.2)
-first_op_is LrW word h = simp (is_no_atomic_call word h.0, is_no_atomic_break word h.0, h.0, h.1, h.2, h.3)
-first_op_is ScW word h = simp (is_no_atomic_call word h.0, is_no_atomic_break word h.0, h.0, h.1, h.2)
-first_op_is AmoswapW word h = simp (is_no_atomic_call word h.0, is_no_atomic_break word h.0, h.0, h.1, h.2)
-first_op_is AmoaddW word h = simp (is_no_atomic_call word h.0, is_no_atomic_break word h.0, h.0, h.1, h.2)
-first_op_is AmoxorW word h = simp (is_no_atomic_call word h.0, is_no_atomic_break word h.0, h.0, h.1, h.2)
-first_op_is AmoandW word h = simp (is_no_atomic_call word h.0, is_no_atomic_break word h.0, h.0, h.1, h.2)
-first_op_is AmoorW word h = simp (is_no_atomic_call word h.0, is_no_atomic_break word h.0, h.0, h.1, h.2)
-first_op_is AmominW word h = simp (is_no_atomic_call word h.0, is_no_atomic_break word h.0, h.0, h.1, h.2)
-first_op_is AmomaxW word h = simp (is_no_atomic_call word h.0, is_no_atomic_break word h.0, h.0, h.1, h.2)
-first_op_is AmominuW word h = simp (is_no_atomic_call word h.0, is_no_atomic_break word h.0, h.0, h.1, h.2)
-first_op_is AmomaxuW word h = simp (is_no_atomic_call word h.0, is_no_atomic_break word h.0, h.0, h.1, h.2)
+first_op_is Mul word h = simp (is_no_call word 0b0110011 h.0 refl, is_no_break word 0b0110011 h.0 refl, h.0, h.1, h.2)
+first_op_is Mulh word h = simp (is_no_call word 0b0110011 h.0 refl, is_no_break word 0b0110011 h.0 refl, h.0, h.1, h.2)
+first_op_is Mulhsu word h = simp (is_no_call word 0b0110011 h.0 refl, is_no_break word 0b0110011 h.0 refl, h.0, h.1, h.2)
+first_op_is Mulhu word h = simp (is_no_call word 0b0110011 h.0 refl, is_no_break word 0b0110011 h.0 refl, h.0, h.1, h.2)
+first_op_is Div word h = simp (is_no_call word 0b0110011 h.0 refl, is_no_break word 0b0110011 h.0 refl, h.0, h.1, h.2)
+first_op_is Divu word h = simp (is_no_call word 0b0110011 h.0 refl, is_no_break word 0b0110011 h.0 refl, h.0, h.1, h.2)
+first_op_is Rem word h = simp (is_no_call word 0b0110011 h.0 refl, is_no_break word 0b0110011 h.0 refl, h.0, h.1, h.2)
+first_op_is Remu word h = simp (is_no_call word 0b0110011 h.0 refl, is_no_break word 0b0110011 h.0 refl, h.0, h.1, h.2)
+first_op_is LrW word h = simp (is_no_call word 0b0101111 h.0 refl, is_no_break word 0b0101111 h.0 refl, h.0, h.1, h.2, h.3)
+first_op_is ScW word h = simp (is_no_call word 0b0101111 h.0 refl, is_no_break word 0b0101111 h.0 refl, h.0, h.1, h.2)
+first_op_is AmoswapW word h = simp (is_no_call word 0b0101111 h.0 refl, is_no_break word 0b0101111 h.0 refl, h.0, h.1, h.2)
+first_op_is AmoaddW word h = simp (is_no_call word 0b0101111 h.0 refl, is_no_break word 0b0101111 h.0 refl, h.0, h.1, h.2)
+first_op_is AmoxorW word h = simp (is_no_call word 0b0101111 h.0 refl, is_no_break word 0b0101111 h.0 refl, h.0, h.1, h.2)
+first_op_is AmoandW word h = simp (is_no_call word 0b0101111 h.0 refl, is_no_break word 0b0101111 h.0 refl, h.0, h.1, h.2)
+first_op_is AmoorW word h = simp (is_no_call word 0b0101111 h.0 refl, is_no_break word 0b0101111 h.0 refl, h.0, h.1, h.2)
+first_op_is AmominW word h = simp (is_no_call word 0b0101111 h.0 refl, is_no_break word 0b0101111 h.0 refl, h.0, h.1, h.2)
+first_op_is AmomaxW word h = simp (is_no_call word 0b0101111 h.0 refl, is_no_break word 0b0101111 h.0 refl, h.0, h.1, h.2)
+first_op_is AmominuW word h = simp (is_no_call word 0b0101111 h.0 refl, is_no_break word 0b0101111 h.0 refl, h.0, h.1, h.2)
+first_op_is AmomaxuW word h = simp (is_no_call word 0b0101111 h.0 refl, is_no_break word 0b0101111 h.0 refl, h.0, h.1, h.2)
 
 is_below : (m n : ℕ) → m < n → nat_lt m n ≡ true
 is_below m n h = grind (arith, nat_tests)

@@ -1,10 +1,11 @@
--- What the instructions that compute give, from two values of 32 bits. The RISC-V unprivileged manual, "Integer
--- Computational Instructions", and of the M extension "Multiplication Operations" and "Division Operations".
+-- What the instructions that compute give, from two values of 32 bits, and what the atomics store. The RISC-V unprivileged
+-- manual, "Integer Computational Instructions", of the M extension "Multiplication Operations" and "Division Operations", and
+-- of the A extension "Atomic Memory Operations".
 use Rattle.std.specs.Prelude.{ℕ, ◌+◌, ◌-◌, ◌*◌, ◌/◌, ◌%◌, ◌^◌, ◌==◌, nat_lt, if◌then◌else◌, Bool, Option, Some, None, ℤ, pos, ◌-ℤ◌, ◌*ℤ◌, int_lt, int_div, int_rem, bit_and, bit_or, bit_xor}
 use Rattle.std.specs.Int.{int_shr}
 use Rattle.rv_isa.specs.Word.{signed_of, modulo}
 use Rattle.rv_isa.specs.declared.op.Op.{Op}
-use Rattle.rv_isa.specs.declared.op.Op.TheVariants.{Addi, Slti, Sltiu, Xori, Ori, Andi, Slli, Srli, Srai, Add, Sub, Sll, Slt, Sltu, Xor, Srl, Sra, Or, And, Mul, Mulh, Mulhsu, Mulhu, Div, Divu, Rem, Remu, AmoaddW, AmoxorW, AmoandW, AmoorW, AmominW, AmomaxW, AmominuW, AmomaxuW}
+use Rattle.rv_isa.specs.declared.op.Op.TheVariants.{Addi, Slti, Sltiu, Xori, Ori, Andi, Slli, Srli, Srai, Add, Sub, Sll, Slt, Sltu, Xor, Srl, Sra, Or, And, Mul, Mulh, Mulhsu, Mulhu, Div, Divu, Rem, Remu, AmoswapW, AmoaddW, AmoxorW, AmoandW, AmoorW, AmominW, AmomaxW, AmominuW, AmomaxuW}
 
 -- 1 where it holds, else 0
 abbrev pub set_if : Bool → ℕ
@@ -57,9 +58,10 @@ alu_of Rem a b = Some (if b == 0 then a else modulo (int_rem (signed_of a) (sign
 alu_of Remu a b = Some (if b == 0 then a else a % b)
 alu_of _ a b = None
 
--- What an atomic of the A extension stores, from the word v that it read and the value b of rs2 ("Atomic Memory
--- Operations"); sc.w stores b.
+-- What an atomic memory operation stores, from the word v that it read and the value b of rs2. One row a name; the others
+-- are no such operations.
 abbrev pub amo_of : Op → ℕ → ℕ → ℕ
+amo_of AmoswapW v b = b
 amo_of AmoaddW v b = (v + b) % 2 ^ 32
 amo_of AmoxorW v b = bit_xor v b
 amo_of AmoandW v b = bit_and v b

@@ -192,7 +192,7 @@ HasForm (Reserve _ _ _) i = (i.rd < 32) × (i.rs1 < 32) × (i.rs2 ≡ 0) × (i.i
 abbrev pub IsInstr : Fields → Type 0
 IsInstr i = HasForm (row_of i.op) i
 
--- the bits that the row ignores are 0; those of fence have no value of their own
+-- The bits that an atomic's row ignores are 0. No word of fence counts, whose ignored fields have no value of their own.
 abbrev pub HasPlainBits : Row → ℕ → Type 0
 HasPlainBits (Bare _ _) word = ⊥
 HasPlainBits (Atomic _ _ _) word = bits word 26 25 ≡ 0

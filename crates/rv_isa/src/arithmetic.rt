@@ -1,4 +1,4 @@
-// The arithmetic of the instructions that compute.
+// The arithmetic of the instructions that compute, and of the atomics.
 ghost use Rattle.std.specs.Prelude.{◌≡◌};
 ghost use Rattle.rv_isa.specs.Arithmetic.{alu_of, amo_of};
 
@@ -40,7 +40,8 @@ pub fn alu(op: Op, a: u32, b: u32) -> Option<u32>
     }
 }
 
-/// What an atomic stores, from the word `v` that it read and the value `b` of `rs2`.
+/// What an atomic memory operation stores, from the word `v` that it read and the value `b` of rs2;
+/// `b` where the instruction is none.
 #[inline(always)]
 pub fn amo(op: Op, v: u32, b: u32) -> u32
     ensures { result ≡ amo_of op v b }
