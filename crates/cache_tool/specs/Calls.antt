@@ -14,7 +14,8 @@ use Rattle.tool_parts.specs.Calls.{call_of}
 abbrev pub access_call : Arg → Call
 access_call address = call_of Before 0 (address ∷ MemSize ∷ [])
 
--- each load and each store
+-- each load, each store and each atomic, once: lr.w and those that read and write by where they read, sc.w by where it writes,
+-- whether or not it stores
 abbrev pub access_calls : Op → List Call
 access_calls Lb = access_call ReadEa ∷ []
 access_calls Lh = access_call ReadEa ∷ []

@@ -10,7 +10,8 @@ use Rattle.insert_points.specs.declared.call.Arg.{Arg}
 use Rattle.insert_points.specs.declared.call.Arg.TheVariants.{InstPtr, ReadEa, WriteEa, MemSize, BranchTaken, Target, Reg, Const}
 use Rattle.insert_points.specs.declared.operands.Operands.{Operands}
 
--- rs1 with the immediate: where a load, a store or an atomic, whose immediate is 0, goes, and where jalr goes before the lowest bit is cleared
+-- rs1 with the immediate, which is 0 in an atomic: where a load, a store or an atomic goes, and where jalr goes before the
+-- lowest bit is cleared
 abbrev pub address_of : Operands → ℕ
 address_of o = wrap (o.a + immediate o.instr)
 

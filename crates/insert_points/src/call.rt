@@ -33,11 +33,11 @@ pub enum Arg {
     /// The address of the instruction.
     #[default]
     InstPtr,
-    /// Where a load reads; 0 for any other instruction.
+    /// Where a load or an atomic other than `sc.w` reads; 0 for any other instruction.
     ReadEa,
-    /// Where a store writes; 0 for any other instruction.
+    /// Where a store or an atomic other than `lr.w` writes, also a `sc.w` that does not store; 0 for any other instruction.
     WriteEa,
-    /// How many bytes a load or a store moves; 0 for any other instruction.
+    /// How many bytes a load or a store moves, and 4 for an atomic; 0 for any other instruction.
     MemSize,
     /// 1 for a jump and for a branch whose condition holds before the instruction; 0 for any other.
     BranchTaken,

@@ -1,5 +1,5 @@
 -- The frames that a step takes.
-use Rattle.std.proofs.Common.{◌≡◌, ℕ, ◌+◌, ◌%◌, ◌^◌, ◌<◌, ◌==◌, true, false, [], ◌∷◌, List, refl, ap, sym, subst, ◌∙◌, arith}
+use Rattle.std.proofs.Common.{◌≡◌, ℕ, ◌+◌, ◌%◌, ◌^◌, ◌<◌, ◌==◌, true, false, [], ◌∷◌, refl, ap, sym, subst, ◌∙◌, arith}
 use Rattle.std.proofs.lemmas.Bool.Decides.{nat_tests}
 use Rattle.std.specs.Prelude.{Option, Some, None, nat_le}
 use Rattle.std.specs.Option.{option_and_then, option_map, unwrap_or}
@@ -7,7 +7,7 @@ use Rattle.rv_isa.specs.Decoded.{decoded}
 use Rattle.rv_isa.specs.Kinds.{ends_block, mem_size}
 use Rattle.rv_isa.specs.Table.{Fields}
 use Rattle.guest_model.specs.Areas.{all_permitted, is_range_permitted}
-use Rattle.guest_model.specs.Effect.{Next, address, effect_by, effect_of, effect_of_instruction, effect_of_word, goes_on, rs2_value, stored_by, stores, aligned, reserves, swaps, stores_conditionally, stores_reserved}
+use Rattle.guest_model.specs.Effect.{Next, address, effect_by, effect_of, effect_of_instruction, effect_of_word, goes_on, rs2_value, stored_by, stores, aligned, reserves, swaps, stores_conditionally, stores_reserved, machine_reserving}
 use Rattle.guest_model.specs.Machine.{Machine, following, instruction_at, is_reserved}
 use Rattle.guest_model.specs.Range.{range}
 use Rattle.guest_model.specs.Space.{Space, read_number, write_number}
@@ -15,7 +15,7 @@ use Rattle.guest_model.specs.declared.Access.TheVariants.{Execute, Read, Write}
 use Rattle.guest_mem.specs.Code.{word_at}
 use Rattle.guest_mem.specs.Frames.{HasAllFrames, TakesFrames}
 use Rattle.rv_machine.specs.Guest.{GuestState}
-use Rattle.rv_machine.specs.Step.{Gives, machine_reserving}
+use Rattle.rv_machine.specs.Step.{Gives}
 use Rattle.rv_machine.specs.declared.step.FaultKind.TheVariants.{Access}
 use Rattle.rv_machine.specs.declared.step.Stepped.TheVariants as stepped
 use Rattle.guest_mem.proofs.Ranges.{takes_none}

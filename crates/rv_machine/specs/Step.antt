@@ -1,8 +1,5 @@
 -- What a step of a guest answers.
-use Rattle.std.specs.Prelude.{◌≡◌, ℕ, ◌+◌, Option}
-use Rattle.rv_isa.specs.Kinds.{ends_block}
-use Rattle.rv_isa.specs.Table.{Fields}
-use Rattle.guest_model.specs.Machine.{Machine, following, put}
+use Rattle.std.specs.Prelude.{◌≡◌, ℕ, ◌+◌}
 use Rattle.guest_model.specs.Effect.{Effect, illegal, breakpoint, misaligned, access, stored_by}
 use Rattle.guest_model.specs.Effect as effects
 use Rattle.guest_mem.specs.Frames.{TakesFrames}
@@ -20,10 +17,6 @@ kind_number Illegal = illegal
 kind_number Break = breakpoint
 kind_number Misaligned = misaligned
 kind_number Access = access
-
--- the machine behind the instruction, with a value in rd, where this is reserved
-abbrev pub machine_reserving : Machine → Fields → ℕ → Option ℕ → Machine
-machine_reserving m i value reservation = record m { pc = following m; registers = put i.rd value m.registers; fresh = ends_block i.op; reservation = reservation }
 
 -- The answer tells the effect, and the guest is the machine after it, which took the frames of what was stored; its memory
 -- came from the same frozen state. At a call and at a fault it stays as it was.

@@ -1,4 +1,4 @@
-//! A guest: one hart of RV32IM with its memory.
+//! A guest: one hart of RV32IMA with its memory.
 #![tactic(auto)]
 
 mod guest;

@@ -4,14 +4,14 @@ ghost use Rattle.guest_model.specs.Effect.{Effect, effect_of, effect_by, stored_
 ghost use Rattle.guest_model.specs.Effect.{immediate, address, target, machine_at, machine_with};
 ghost use Rattle.guest_model.specs.Effect.{passes, writes, computes, jumps, branches, loads};
 ghost use Rattle.guest_model.specs.Effect.{stores, aligned, reserves, swaps, stores_conditionally};
-ghost use Rattle.guest_model.specs.Effect.{stores_reserved};
+ghost use Rattle.guest_model.specs.Effect.{stores_reserved, machine_reserving};
 ghost use Rattle.guest_model.specs.Space.{write_number};
 ghost use Rattle.guest_model.specs.Machine.{following, instruction_at, is_reserved};
 ghost use Rattle.guest_mem.specs.Code.{word_at};
 ghost use Rattle.guest_mem.specs.Frames.{HasAllFrames};
 ghost use Rattle.rv_isa.specs.Kinds.{mem_size};
 ghost use Rattle.rv_machine.specs.Ran.{HasFramesFor, HasRun};
-ghost use Rattle.rv_machine.specs.Step.{Gives, kind_number, machine_reserving, status_of};
+ghost use Rattle.rv_machine.specs.Step.{Gives, kind_number, status_of};
 
 use crate::guest::Guest;
 use rv_isa::{Instr, Op, alu, amo, is_taken, is_terminator, loaded, mem_size};
@@ -23,7 +23,7 @@ pub enum FaultKind {
     Illegal = 4,
     /// An ebreak (SIGTRAP).
     Break = 5,
-    /// A jump to, or an atomic at, an address that is no multiple of 4 (SIGBUS).
+    /// A jump to an address that is no multiple of 4, or an atomic there (SIGBUS).
     Misaligned = 7,
     /// An access that the memory's areas do not permit (SIGSEGV).
     Access = 11,
@@ -243,17 +243,17 @@ impl Guest {
             Op::Divu => self.compute(i, self.rs2(i)),
             Op::Rem => self.compute(i, self.rs2(i)),
             Op::Remu => self.compute(i, self.rs2(i)),
-            Op::LrW => self.reserve(i),
-            Op::ScW => self.store_conditionally(i),
-            Op::AmoswapW => self.swap(i),
-            Op::AmoaddW => self.swap(i),
-            Op::AmoxorW => self.swap(i),
-            Op::AmoandW => self.swap(i),
-            Op::AmoorW => self.swap(i),
-            Op::AmominW => self.swap(i),
-            Op::AmomaxW => self.swap(i),
-            Op::AmominuW => self.swap(i),
-            Op::AmomaxuW => self.swap(i),
+            Op::LrW => self.reserve(*i),
+            Op::ScW => self.store_conditionally(*i),
+            Op::AmoswapW => self.swap(*i),
+            Op::AmoaddW => self.swap(*i),
+            Op::AmoxorW => self.swap(*i),
+            Op::AmoandW => self.swap(*i),
+            Op::AmoorW => self.swap(*i),
+            Op::AmominW => self.swap(*i),
+            Op::AmomaxW => self.swap(*i),
+            Op::AmominuW => self.swap(*i),
+            Op::AmomaxuW => self.swap(*i),
             Op::Fence => self.go_on(i),
             Op::Ecall => Stepped::Call,
             Op::Ebreak => Stepped::Fault(FaultKind::Break),
@@ -401,6 +401,7 @@ impl Guest {
         self.reservation = reservation;
     }
 
+    // Whether this address is the one that is reserved.
     fn is_reserved(&self, at: u32) -> bool
         ensures { result ≡ is_reserved self.now.machine.reservation at }
     {
@@ -410,39 +411,43 @@ impl Guest {
         }
     }
 
-    // lr.w: reads the word, and reserves its address.
-    fn reserve(&mut self, i: &Instr) -> Stepped
-        ensures { Gives (aligned self.old.machine i.now (reserves self.old.machine i.now)) result self.old self.new }
+    // lr.w: reads the word, and reserves its address. The atomics are called, each with a copy of the
+    // instruction, so that the arms of the others stay as short as they are without them.
+    #[inline(never)]
+    fn reserve(&mut self, i: Instr) -> Stepped
+        ensures { Gives (aligned self.old.machine i (reserves self.old.machine i)) result self.old self.new }
     {
-        let at = self.address(i);
+        let at = self.address(&i);
         if at % 4 != 0 {
             return Stepped::Fault(FaultKind::Misaligned);
         }
         match self.memory.load(at, 4) {
             Ok(value) => {
-                self.write_reserving(i, value, Some(at));
+                self.write_reserving(&i, value, Some(at));
                 Stepped::Next
             }
             Err(_) => Stepped::Fault(FaultKind::Access),
         }
     }
 
-    // An amo: reads the word, and stores what the instruction makes of it and of rs2.
-    fn swap(&mut self, i: &Instr) -> Stepped
-        requires { HasAllFrames self.old.frames (stored_by (aligned self.old.machine i.now (swaps self.old.machine i.now))) }
-        ensures { Gives (aligned self.old.machine i.now (swaps self.old.machine i.now)) result self.old self.new }
+    // An atomic memory operation: reads the word, and stores what the operation makes of it and of rs2,
+    // which is read before rd is written.
+    #[inline(never)]
+    fn swap(&mut self, i: Instr) -> Stepped
+        requires { HasAllFrames self.old.frames (stored_by (aligned self.old.machine i (swaps self.old.machine i))) }
+        ensures { Gives (aligned self.old.machine i (swaps self.old.machine i)) result self.old self.new }
     {
-        let at = self.address(i);
+        let at = self.address(&i);
         if at % 4 != 0 {
             return Stepped::Fault(FaultKind::Misaligned);
         }
         let Ok(read) = self.memory.load(at, 4) else {
             return Stepped::Fault(FaultKind::Access);
         };
-        let value = amo(i.op, read, self.rs2(i));
+        let value = amo(i.op, read, self.rs2(&i));
         match self.memory.store(at, 4, value) {
             Ok(()) => {
-                self.write_and_move(i, read, self.following());
+                self.write_and_move(&i, read, self.following());
                 Stepped::Next
             }
             Err(_) => Stepped::Fault(FaultKind::Access),
@@ -450,11 +455,12 @@ impl Guest {
     }
 
     // sc.w: stores rs2 where the address is reserved. Nothing is reserved from then on.
-    fn store_conditionally(&mut self, i: &Instr) -> Stepped
-        requires { HasAllFrames self.old.frames (stored_by (aligned self.old.machine i.now (stores_conditionally self.old.machine i.now))) }
-        ensures { Gives (aligned self.old.machine i.now (stores_conditionally self.old.machine i.now)) result self.old self.new }
+    #[inline(never)]
+    fn store_conditionally(&mut self, i: Instr) -> Stepped
+        requires { HasAllFrames self.old.frames (stored_by (aligned self.old.machine i (stores_conditionally self.old.machine i))) }
+        ensures { Gives (aligned self.old.machine i (stores_conditionally self.old.machine i)) result self.old self.new }
     {
-        let at = self.address(i);
+        let at = self.address(&i);
         if at % 4 != 0 {
             return Stepped::Fault(FaultKind::Misaligned);
         }
@@ -462,23 +468,24 @@ impl Guest {
             return Stepped::Fault(FaultKind::Access);
         };
         if !self.is_reserved(at) {
-            return self.fail_to_store(i, at);
+            return self.fail_to_store(&i, at);
         }
-        let value = self.rs2(i);
+        let value = self.rs2(&i);
         match self.memory.store(at, 4, value) {
             Ok(()) => {
-                self.write_reserving(i, 0, None);
+                self.write_reserving(&i, 0, None);
                 Stepped::Next
             }
             Err(_) => Stepped::Fault(FaultKind::Access),
         }
     }
 
-    // sc.w where the address is not reserved: stores nothing, but needs the permission.
+    // sc.w where the address is not reserved: stores nothing, but asks whether it might.
     fn fail_to_store(&mut self, i: &Instr, at: u32) -> Stepped
         requires aligned { at % 4 ≡ 0 }
         requires at { at ≡ address self.old.machine i.now }
-        ensures { Gives (stores_reserved self.old.machine i.now false (write_number self.old.machine.space at 4 (rs2_value self.old.machine i.now))) result self.old self.new }
+        ensures { Gives (stores_reserved self.old.machine i.now false
+            (write_number self.old.machine.space at 4 (rs2_value self.old.machine i.now))) result self.old self.new }
     {
         if !self.memory.writable(at, 4) {
             return Stepped::Fault(FaultKind::Access);

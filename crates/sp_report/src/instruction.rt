@@ -101,6 +101,16 @@ fn push_upper(text: &mut Vec<u8>, a: u8, high: u32) -> Result<(), AllocError>
     push_hex(text, high)
 }
 
+// Adds `(xA)`.
+fn push_pointed(text: &mut Vec<u8>, base: u8) -> Result<(), AllocError>
+    ensures { OnOk result (text.new.items ≡ text.old.items ++ pointed base) }
+{
+    text.push(b'(')?;
+    push_register(text, base)?;
+    text.push(b')')?;
+    Ok(())
+}
+
 // Adds ` xA,xB,(xC)`.
 fn push_atomic(text: &mut Vec<u8>, a: u8, b: u8, base: u8) -> Result<(), AllocError>
     ensures { OnOk result (text.new.items ≡ text.old.items ++ listed (register a) (register b) (pointed base)) }
@@ -121,16 +131,6 @@ fn push_reserve(text: &mut Vec<u8>, a: u8, base: u8) -> Result<(), AllocError>
     push_register(text, a)?;
     text.push(b',')?;
     push_pointed(text, base)
-}
-
-// Adds `(xA)`.
-fn push_pointed(text: &mut Vec<u8>, base: u8) -> Result<(), AllocError>
-    ensures { OnOk result (text.new.items ≡ text.old.items ++ pointed base) }
-{
-    text.push(b'(')?;
-    push_register(text, base)?;
-    text.push(b')')?;
-    Ok(())
 }
 
 // Whether an instruction with an immediate lists its fields: those that compute do, and the others have an address.

@@ -1,11 +1,6 @@
-use Rattle.std.proofs.Common.{◌≡◌, ℕ, Bool, true, false, [], ◌∷◌, ap, sym, subst, ◌∙◌}
-use Rattle.std.specs.Prelude.{Some}
-use Rattle.guest_model.specs.Areas.{all_permitted, is_range_permitted}
-use Rattle.guest_model.specs.Range.{range}
-use Rattle.guest_model.specs.Machine.{is_reserved}
-use Rattle.guest_model.specs.Space.{read_number}
-use Rattle.guest_model.specs.declared.Access.TheVariants.{Read, Write}
-use Rattle.guest_mem.specs.Frames.{HasAllFrames}
+use Rattle.std.proofs.Common.{ap, sym, ◌∙◌}
+use Rattle.guest_model.specs.Areas.{is_range_permitted}
+use Rattle.guest_model.specs.declared.Access.TheVariants.{Write}
 use Rattle.rv_machine.specs.Guest.{GuestState}
 use Rattle.rv_machine.proofs.Frames.{denied_at, fails_at, word_permitted}
 use Rattle.guest_model.specs.Effect.{rs2_value}
