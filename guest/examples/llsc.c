@@ -33,10 +33,8 @@ static void show_pairs(void) {
     show("behind one that failed", second);
 }
 
-// A store, an atomic and a call, each between the two.
+// A store, an atomic and a call, getpid, each between the two.
 static void show_between(void) {
-    register uint32_t a0 __asm__("a0");
-    register uint32_t a7 __asm__("a7") = 172; // getpid
     uint32_t old, answer;
     __asm__ volatile("lr.w %0,(%2)\n\tsw %3,(%2)\n\tsc.w %1,%4,(%2)"
                      : "=&r"(old), "=&r"(answer) : "r"(&word), "r"(12), "r"(13) : "memory");
@@ -44,8 +42,8 @@ static void show_between(void) {
     __asm__ volatile("lr.w %0,(%2)\n\tamoadd.w %0,%3,(%2)\n\tsc.w %1,%3,(%2)"
                      : "=&r"(old), "=&r"(answer) : "r"(&word), "r"(14) : "memory");
     show("an atomic between", answer);
-    __asm__ volatile("lr.w %0,(%3)\n\tecall\n\tsc.w %1,%4,(%3)"
-                     : "=&r"(old), "=&r"(answer), "=&r"(a0) : "r"(&word), "r"(15), "r"(a7) : "memory");
+    __asm__ volatile("li a7,172\n\tlr.w %0,(%2)\n\tecall\n\tsc.w %1,%3,(%2)"
+                     : "=&r"(old), "=&r"(answer) : "r"(&word), "r"(15) : "a0", "a7", "memory");
     show("a call between", answer);
 }
 
