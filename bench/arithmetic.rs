@@ -58,3 +58,20 @@ pub fn compute(f7: u32, f3: u32, a: u32, b: u32) -> Result<u32, End> {
         _ => return Err(ILLEGAL),
     })
 }
+
+/// What an atomic stores, from the word that it read and from rs2, by the upper five bits of its word.
+#[inline]
+pub fn swap_by(code: u32) -> Result<fn(u32, u32) -> u32, End> {
+    Ok(match code {
+        0b00001 => |_, b| b,
+        0b00000 => |old, b| old.wrapping_add(b),
+        0b00100 => |old, b| old ^ b,
+        0b01100 => |old, b| old & b,
+        0b01000 => |old, b| old | b,
+        0b10000 => |old, b| (old as i32).min(b as i32) as u32,
+        0b10100 => |old, b| (old as i32).max(b as i32) as u32,
+        0b11000 => |old, b| old.min(b),
+        0b11100 => |old, b| old.max(b),
+        _ => return Err(ILLEGAL),
+    })
+}

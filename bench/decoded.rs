@@ -51,6 +51,17 @@ pub enum Kind {
     Divu,
     Rem,
     Remu,
+    LrW,
+    ScW,
+    AmoswapW,
+    AmoaddW,
+    AmoxorW,
+    AmoandW,
+    AmoorW,
+    AmominW,
+    AmomaxW,
+    AmominuW,
+    AmomaxuW,
     Fence,
     Ecall,
     Ebreak,
@@ -90,6 +101,7 @@ impl Word {
             0x23 if f3 < 3 => ([Sb, Sh, Sw][f3], stored),
             0x13 => (immediate_kind(word >> 25, f3), signed),
             0x33 => (register_kind(word >> 25, f3), 0),
+            0x2f if f3 == 2 => (atomic_kind(word >> 27, word >> 20 & 31), 0),
             0x0f if f3 == 0 => (Fence, 0),
             0x73 if word == 0x0000_0073 => (Ecall, 0),
             0x73 if word == 0x0010_0073 => (Ebreak, 0),
@@ -126,6 +138,23 @@ fn register_kind(f7: u32, f3: usize) -> Kind {
         (1, _) => [Mul, Mulh, Mulhsu, Mulhu, Div, Divu, Rem, Remu][f3],
         (32, 0) => Sub,
         (32, 5) => Sra,
+        _ => Illegal,
+    }
+}
+
+fn atomic_kind(code: u32, rs2: u32) -> Kind {
+    match code {
+        0b00010 if rs2 == 0 => LrW,
+        0b00011 => ScW,
+        0b00001 => AmoswapW,
+        0b00000 => AmoaddW,
+        0b00100 => AmoxorW,
+        0b01100 => AmoandW,
+        0b01000 => AmoorW,
+        0b10000 => AmominW,
+        0b10100 => AmomaxW,
+        0b11000 => AmominuW,
+        0b11100 => AmomaxuW,
         _ => Illegal,
     }
 }

@@ -1,4 +1,4 @@
-//! A fast interpreter of RV32IM Linux programs, as the yardstick for superpin's steps: code is decoded once, an access
+//! A fast interpreter of RV32IMA Linux programs, as the yardstick for superpin's steps: code is decoded once, an access
 //! looks up one entry of a table of pages, and the run is one loop with its pc in a local. No proof covers it.
 //!
 //! `fast run --by serial --budget N FILE` takes the words, makes the steps and prints the count as the plain interpreter does.
@@ -29,6 +29,7 @@ struct Machine {
     pc: u32,
     // Register 32 takes what is written to x0. There are so many that each number of 8 bits has one.
     registers: [u32; 256],
+    reservation: Option<u32>,
     memory: Memory,
     code_start: u32,
     code: Vec<Word>,
@@ -49,6 +50,7 @@ impl Machine {
         Machine {
             pc,
             registers,
+            reservation: None,
             memory,
             code_start,
             code,
@@ -96,6 +98,22 @@ impl Machine {
                         break Stop::Signal(ACCESS);
                     }
                 };
+            }
+            // The word goes to rd, and what is made of it to its place.
+            macro_rules! swap {
+                ($made:expr) => {{
+                    if at % 4 != 0 {
+                        break Stop::Signal(MISALIGNED);
+                    }
+                    let Some(old) = self.memory.load(at).map(u32::from_le_bytes) else {
+                        break Stop::Signal(ACCESS);
+                    };
+                    let made: u32 = $made(old);
+                    if !self.memory.store(at, made.to_le_bytes()) {
+                        break Stop::Signal(ACCESS);
+                    }
+                    put!(old);
+                }};
             }
             macro_rules! branch {
                 ($taken:expr) => {
@@ -169,6 +187,26 @@ impl Machine {
                 Kind::Rem if b == 0 => put!(a),
                 Kind::Rem => put!(signed_a.wrapping_rem(signed_b) as u32),
                 Kind::Remu => put!(a.checked_rem(b).unwrap_or(a)),
+                Kind::LrW if at % 4 != 0 => break Stop::Signal(MISALIGNED),
+                Kind::LrW => {
+                    load!(u32, u32);
+                    self.reservation = Some(at);
+                }
+                Kind::ScW => {
+                    let is_reserved = self.reservation == Some(at);
+                    swap!(|old| if is_reserved { b } else { old });
+                    put!(!is_reserved as u32);
+                    self.reservation = None;
+                }
+                Kind::AmoswapW => swap!(|_| b),
+                Kind::AmoaddW => swap!(|old: u32| old.wrapping_add(b)),
+                Kind::AmoxorW => swap!(|old| old ^ b),
+                Kind::AmoandW => swap!(|old| old & b),
+                Kind::AmoorW => swap!(|old| old | b),
+                Kind::AmominW => swap!(|old| signed_b.min(old as i32) as u32),
+                Kind::AmomaxW => swap!(|old| signed_b.max(old as i32) as u32),
+                Kind::AmominuW => swap!(|old| b.min(old)),
+                Kind::AmomaxuW => swap!(|old| b.max(old)),
                 Kind::Fence => {}
                 Kind::Ecall => break Stop::Call,
                 Kind::Ebreak => break Stop::Signal(BREAK),
@@ -195,6 +233,7 @@ impl Machine {
             }
             _ => -38i32 as u32,
         };
+        self.reservation = None;
         self.pc = self.pc.wrapping_add(4);
         Some(())
     }

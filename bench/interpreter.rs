@@ -1,4 +1,4 @@
-//! A plain interpreter of RV32IM Linux programs, to measure superpin beside it. No proof covers it.
+//! A plain interpreter of RV32IMA Linux programs, to measure superpin beside it. No proof covers it.
 //!
 //! `interpreter run --by serial --budget N FILE` runs a static executable for at most N steps, as superpin does at these
 //! words, and writes the number of its steps to the standard error. Of the calls it has write and exit.
@@ -8,7 +8,7 @@ mod arithmetic;
 mod fields;
 mod guest;
 
-use arithmetic::{compute, compute_immediate, is_taken};
+use arithmetic::{compute, compute_immediate, is_taken, swap_by};
 use fields::{branch_offset, jump_offset};
 use std::io::{Write, stderr, stdout};
 use std::process::ExitCode;
@@ -41,6 +41,7 @@ struct Area {
 struct Machine {
     pc: u32,
     registers: [u32; 32],
+    reservation: Option<u32>,
     areas: Vec<Area>,
 }
 
@@ -76,6 +77,7 @@ impl Machine {
         Machine {
             pc: word(24),
             registers,
+            reservation: None,
             areas,
         }
     }
@@ -133,6 +135,28 @@ impl Machine {
         }
     }
 
+    /// The word at an address that an atomic reserves.
+    fn reserve(&mut self, at: u32) -> Result<u32, End> {
+        let old = u32::from_le_bytes(self.read(READ, aligned(at)?)?);
+        self.reservation = Some(at);
+        Ok(old)
+    }
+
+    /// Stores at an address, where it is the reserved one, and says by 0 that it did, by 1 that it did not.
+    fn store_conditionally(&mut self, at: u32, value: u32) -> Result<u32, End> {
+        let is_reserved = self.reservation == Some(at);
+        self.swap(at, value, |old, b| if is_reserved { b } else { old })?;
+        self.reservation = None;
+        Ok(!is_reserved as u32)
+    }
+
+    /// The word at an address, at which then stands what the operation makes of it and `b`.
+    fn swap(&mut self, at: u32, b: u32, operation: impl Fn(u32, u32) -> u32) -> Result<u32, End> {
+        let old = u32::from_le_bytes(self.read(READ, aligned(at)?)?);
+        self.write(at, operation(old, b).to_le_bytes())?;
+        Ok(old)
+    }
+
     /// Carries out the instruction at pc.
     fn step(&mut self) -> Result<(), End> {
         let word = u32::from_le_bytes(self.read(EXECUTE, self.pc)?);
@@ -152,6 +176,11 @@ impl Machine {
             0b00000 => self.load_number(f3, a.wrapping_add(immediate))?,
             0b00100 => compute_immediate(word >> 25, f3, a, immediate)?,
             0b01100 => compute(word >> 25, f3, a, self.registers[rs2])?,
+            0b01011 if f3 == 2 => match word >> 27 {
+                0b00010 if rs2 == 0 => self.reserve(a)?,
+                0b00011 => self.store_conditionally(a, self.registers[rs2])?,
+                code => self.swap(a, self.registers[rs2], swap_by(code)?)?,
+            },
             0b11011 => {
                 self.pc = aligned(self.pc.wrapping_add(jump_offset(word)))?;
                 self.put(rd, following);
@@ -181,6 +210,7 @@ impl Machine {
             }
             0b11100 if word == 0x00000073 => {
                 self.registers[10] = self.call()?;
+                self.reservation = None;
                 self.pc = following;
                 return Ok(());
             }

@@ -3,6 +3,7 @@
 #
 #     extras/hostile.sh [SEED [COUNT [FIRST]]]
 #     extras/hostile.sh memory
+#     extras/hostile.sh qemu [COUNT [FIRST]]
 #
 # The first tries the cases FIRST to FIRST + COUNT - 1 of the seed, by default 10,000 cases from 0 on of the seed 1. A case is the same
 # each time, as long as the examples are: those of the repository, and those that guest/check.sh compiled to guest/out, where they are
@@ -14,7 +15,8 @@
 # in the folder for temporary files.
 #
 # With the word memory, some examples are run as often as they ask for memory, and each request is refused in turn: first by itself,
-# then with all later ones.
+# then with all later ones. With the word qemu, programs of random instructions are run serially and by qemu-riscv32; what they write and how
+# they end must be the same.
 #
 # The last line has the numbers of the cases. SUPERPIN and SUPERPIN_LIVE are the programs that are run, by default those of the
 # repository, which the launchers at the top prove and build first. hostile/ beside this script has the cases. No network is used.

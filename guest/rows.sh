@@ -6,7 +6,7 @@ ulimit -c 0
 
 guest=$(cd "$(dirname "${BASH_SOURCE[0]}")" && pwd)
 top=$(dirname "$guest")
-examples=(hello echo capitals words json quicksort sieve matrix heap library fault untabled)
+examples=(hello echo capitals words json quicksort sieve matrix heap library atomics stack llsc fault untabled)
 folder=$(mktemp -d)
 trap 'rm -rf "$folder"' EXIT
 trap 'exit 1' HUP INT TERM
@@ -79,6 +79,15 @@ library='[   42] [42   ] [00042] [+42] [2a] [052]\n[0.667] [  1.23e+05] [0.0001]
 library=$library'<one><two><three>\nline of 5: first\nline of 16: last without end\n1.414213562 0.841470985 1.071773463\n'
 library=$library'2000-02-29 12:00:00, later 1, now 1\nout of qsort\na file: no, No such file or directory\n'
 capitals='1: one\n2: two\n3: three\n4: four\n5: five\n6: six\nEVERY INSTRUCTION\nCOUNTS ONCE.\n'
+atomics='added 499500, before 166167000\nbits 0xfffff5aa, before 0x9d7c4\nstrong 0, 1, found 9, now 11\nweak 46667771\n'
+atomics=$atomics'1 byte -72, greatest 127; 2 bytes 7440; 8 bytes 0x79f2c00079f2cf\n'
+atomics=$atomics'exchanged -72, 7440, 0x79f2c00079f2cf, beside 99\nwithout a lock: 4 bytes 1, 8 bytes 0\n'
+atomics=$atomics'object 1 -2 3\nflag 0, 1, 0\nolder 100, -4950, 1\n'
+stack='sum 32250\ntook 3 and 2, the same top again: 1, the late one is done: 0\nleft 3\nleft 1\n'
+pairs='reserved: 0, words 5 and 2\nnothing reserved: 1, words 1 and 2\nanother address: 1, words 1 and 2\n'
+pairs=$pairs'another address reserved later: 1, words 1 and 2\ntwice, at first: 0, words 9 and 2\ntwice, at last: 1, words 1 and 2\n'
+pairs=$pairs'behind one that failed: 1, words 1 and 2\n'
+between='a store between: 0, words 13 and 2\nan atomic between: 0, words 14 and 2\na call between: 1, words 1 and 2\n'
 signal='end signal 11 at 0x????????'
 refusal='superpin: 6 unsupported call 278 at 0x????????'
 
@@ -98,6 +107,10 @@ run_rows() {
     check both     matrix    0      'end exit 0'  'first -3, last 8, trace 20\n'  ''
     check both     heap      0      'end exit 0'  "$memory"                       ''
     check both     library   42     'end exit 42' "$library"                      'first\nlast without end'
+    check both     atomics   0      'end exit 0'  "$atomics"                      ''
+    check both     stack     0      'end exit 0'  "$stack"                        ''
+    check both     llsc      0      'end exit 0'  "$pairs"                        ''
+    check superpin llsc      0      'end exit 0'  "$between"                      ''                              between
     check both     fault     139    "$signal"     'before the fault\n'            ''
     check superpin untabled  125    "$refusal"    'before the call\n'             ''
 }

@@ -10,6 +10,7 @@ import tempfile
 
 import cases
 import memory
+import qemu
 import running
 
 REFUSED = ' with memory refused'
@@ -141,6 +142,8 @@ def main():
     asked = arguments()
     if asked.seed == 'memory':
         return memory.main(asked)
+    if asked.seed == 'qemu':
+        return qemu.main(asked)
     passed = failed = sliced = 0
     seen = collections.Counter()
     numbers = range(asked.first, asked.first + asked.count)

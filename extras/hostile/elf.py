@@ -40,6 +40,16 @@ def r_type(funct7, rs2, rs1, funct3, rd, opcode=0x33):
     return funct7 << 25 | rs2 << 20 | rs1 << 15 | funct3 << 12 | rd << 7 | opcode
 
 
+# the codes of atomics; the others than the first two change a word by themselves
+LR, SC = 2, 3
+CHANGES = (1, 0, 4, 12, 8, 16, 20, 24, 28)
+
+
+def atomic(code, rs2, rs1, rd, order=0):
+    """An atomic; its order is the bits aq and rl. lr.w has no rs2."""
+    return r_type(code << 2 | order, 0 if code == LR else rs2, rs1, 2, rd, 0x2f)
+
+
 def i_type(imm, rs1, funct3, rd, opcode=0x13):
     return (imm & 0xfff) << 20 | rs1 << 15 | funct3 << 12 | rd << 7 | opcode
 
@@ -81,6 +91,8 @@ SMALL = {
     'past-data': ([0x000222b7, 0xffe2a303], True),
     'count-to-six': ([0x00020337, 0x00600393, 0x00032283, 0x00128293, 0x00532023, 0x407282b3, 0x00028663, 0x00000293, 0xfe9ff06f] + EXIT_7, True),
     'load-a-line': ([0x00020337, 0x00032283, 0x00432283] + EXIT_7, True),
+    'reserve-and-store': ([0x00020337, 0x100322af, 0x185323af, 0x00039463, 0x00100293] + EXIT_7, True),
+    'reserve-and-call': ([0x00020337, 0x100322af, 0x0ac00893, ECALL, 0x185323af, 0x00039463, 0x00100293] + EXIT_7, True),
     'call-deep': ([0x014000ef, 0x030000ef] + EXIT_7 + [0x00008413, 0x00c000ef, 0x00040093, 0x00008067, 0x00008493, 0x00c000ef, 0x00048093, 0x00008067, 0x00008067], False),
     'read-twice': ([0x000205b7, 0x03f00893, 0x00000513, 0x00100613, ECALL, 0x00000513, ECALL] + EXIT_7, True),
     'write-pages': ([0x000645b7, 0x00300613, 0x02200693, 0x0de00893, ECALL, 0x00001337, 0x06400393, 0x00652023, 0x00650533, 0xfff38393, 0xfe039ae3] + EXIT_7, False),

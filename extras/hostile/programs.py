@@ -1,7 +1,7 @@
 """Random programs of instructions and calls, as files. The same random numbers give the same file.
 
 A program keeps to these registers: x8 points into 64 KiB of data, x9 walks over pages, x18 counts the turns of loops, x20 to x23 are
-numbers that it needs, x26 is the page of the clock, which it stores to by calls alone; the others are worked with. A wild program keeps to none."""
+numbers that it needs, x24 is the address of an atomic, x26 the page of the clock, which it stores to by calls alone; the others are worked with. A wild program keeps to none."""
 
 import elf
 
@@ -69,6 +69,16 @@ class Program:
             else:
                 self.add(elf.s_type(offset, self.register(), base, rng.randrange(3)))
 
+    def atomics(self):
+        """Atomics at a word of the data, with other things between them, calls among these."""
+        rng = self.rng
+        self.add(*elf.load_value(24, DATA + 4 * rng.randrange(DATA_SIZE // 4) + rng.choice((0,) * 100 + (2,))))
+        for _ in range(rng.randrange(1, 8)):
+            if rng.random() < 0.3:
+                rng.choice((self.some_arithmetic, self.memory, self.call))()
+            code = rng.choice((elf.LR, elf.SC) * 4 + elf.CHANGES)
+            self.add(elf.atomic(code, self.register(), 24, self.register(), rng.randrange(4)))
+
     def across_pages(self):
         """Stores that lie across two pages, or begin each page, going up from the start of the data."""
         rng = self.rng
@@ -96,7 +106,7 @@ class Program:
         if rng.random() < 0.3:
             self.call()
         for _ in range(rng.randrange(1, 4)):
-            rng.choice((self.some_arithmetic, self.memory, self.touch))()
+            rng.choice((self.some_arithmetic, self.memory, self.touch, self.atomics))()
         down = 0 if rng.random() < 0.02 else -1
         self.add(elf.i_type(down, 18, 0, 18), elf.b_type(4 * (head - len(self.words) - 1), 0, 18, 1))
 
@@ -232,7 +242,7 @@ def random_program(rng):
     """A file with a program that mostly runs for a while."""
     program = Program(rng, wild=rng.random() < 0.15)
     prologue(program)
-    parts = (program.some_arithmetic,) * 4 + (program.memory,) * 5 + (program.call,) * 6 + (program.loop,) * 5 + \
+    parts = (program.some_arithmetic,) * 4 + (program.memory,) * 5 + (program.atomics,) * 4 + (program.call,) * 6 + (program.loop,) * 5 + \
         (program.across_pages,) * 2 + (program.branch,) * 3 + (program.function,) * 3 + (program.touch,)
     for _ in range(rng.randrange(1, 40)):
         rng.choice(parts)()
@@ -248,8 +258,10 @@ def random_words(rng):
     for _ in range(rng.randrange(1, 60)):
         word = rng.getrandbits(32)
         if rng.random() < 0.8:
-            word = word & ~0x7f | rng.choice((0x33, 0x13, 0x03, 0x23, 0x63, 0x6f, 0x67, 0x37, 0x17, 0x0f, 0x73))
-        if rng.random() < 0.3:
+            word = word & ~0x7f | rng.choice((0x33, 0x13, 0x03, 0x23, 0x63, 0x6f, 0x67, 0x37, 0x17, 0x0f, 0x2f, 0x73))
+        if word & 0x7f == 0x2f and rng.random() < 0.8:
+            word = word & ~0xf8007000 | 0x2000 | rng.choice((elf.LR, elf.SC) + elf.CHANGES) << 27
+        elif rng.random() < 0.3:
             word &= ~0xfe000000 | rng.choice((0, 0x2000000, 0x40000000))
         words.append(word & 0xffffffff)
     return elf.elf_file(words, segments_of(rng)[:1])
@@ -262,7 +274,7 @@ def stormy_program(rng):
     program.add(*elf.load_value(19, rng.choice((5, 50, 500, 3000))))
     head = len(program.words)
     for _ in range(rng.randrange(1, 4)):
-        rng.choice((program.call, program.touch, program.across_pages, program.memory, program.some_arithmetic))()
+        rng.choice((program.call, program.touch, program.across_pages, program.memory, program.atomics, program.some_arithmetic))()
     program.add(elf.i_type(-1, 19, 0, 19))
     program.add(elf.b_type(8, 0, 19, 0), elf.j_type(4 * (head - len(program.words) - 1), 0))
     epilogue(program)

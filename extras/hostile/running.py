@@ -14,6 +14,14 @@ REFUSED = re.compile(rb'superpin: (?:[1-9]|11) [^\n]+\n\Z')
 SLICE = re.compile(rb'slice (\d+) (\d+) (\d+) (\d+) (\d+) (\d+) (\d+)\n')
 
 
+class Limits:
+    """So many seconds, and no limit on memory."""
+
+    def __init__(self, seconds):
+        self.seconds = seconds
+        self.address_space = None
+
+
 class Run:
     """What a run left: its status, negative where a signal ended it; the two outputs; the seconds and the mebibytes that it took."""
 

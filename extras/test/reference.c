@@ -1,10 +1,10 @@
-// A plain interpreter of RV32IM Linux programs that makes the reports of superpin's tools, written from the RISC-V manual,
+// A plain interpreter of RV32IMA Linux programs that makes the reports of superpin's tools, written from the RISC-V manual,
 // elf(5) and docs/FORMATS.md alone, so that the tests here have a judge of their own:
 //
 //     reference run [--by serial] [--tool TOOL] FILE [ARGS]
 //
 // TOOL is icount, blocks, calls or cache:S:B. The report goes to the standard error. Of the calls it has read, write, exit,
-// brk and clock_gettime64, which tells the moments 0. It trusts its words and its program to be well formed.
+// getpid, brk and clock_gettime64, which tells the moments 0. It trusts its words and its program to be well formed.
 #include <elf.h>
 #include <inttypes.h>
 #include <stdbool.h>
@@ -21,6 +21,8 @@ static const uint32_t STACK = 0x7fe00000 + 0xff000, STACK_END = 0x7ffff000, MEMO
 static uint8_t *memory;                         // of 2^31 addresses
 static uint8_t rights[1 << 19];                 // of each page
 static uint32_t x[32], pc, heap_start, heap_end;
+static bool is_reserved;                        // whether an address is
+static uint32_t reserved;
 static const char *tool;
 static Elf32_Ehdr *elf;
 
@@ -188,6 +190,7 @@ static void call(void) {
         snprintf(line, sizeof line, "end exit %u\n", x[10] & 255);
         end(x[10] & 255, line);
     }
+    case 172: x[10] = 1000; break;
     case 214: x[10] = call_brk(x[10]); break;
     case 403:
         if (!is_allowed(x[11], 16, MAY_WRITE)) x[10] = -14;
@@ -212,6 +215,7 @@ static bool is_known(uint32_t word) {
     case 0x23: return three < 3;
     case 0x13: return three == 1 ? seven == 0 : three != 5 || seven == 0 || seven == 0x20;
     case 0x33: return seven == 0 || seven == 1 || (seven == 0x20 && (three == 0 || three == 5));
+    case 0x2f: return three == 2 && (seven >> 2 == 2 ? (word >> 20 & 31) == 0 : seven >> 2 < 4 || (seven >> 2) % 4 == 0);
     case 0x0f: return three == 0;
     case 0x73: return word == 0x73 || word == 0x100073;
     default: return false;
@@ -242,6 +246,45 @@ static uint32_t compute(int three, bool other, uint32_t a, uint32_t b) {
     case 5: return other ? (uint32_t)((int32_t)a >> (b & 31)) : a >> (b & 31);
     case 6: return a | b;
     default: return a & b;
+    }
+}
+
+// What an atomic memory operation stores.
+static uint32_t change(int five, uint32_t old, uint32_t b) {
+    switch (five) {
+    case 0: return old + b;
+    case 1: return b;
+    case 4: return old ^ b;
+    case 8: return old | b;
+    case 12: return old & b;
+    case 16: return (int32_t)old < (int32_t)b ? old : b;
+    case 20: return (int32_t)old > (int32_t)b ? old : b;
+    case 24: return old < b ? old : b;
+    default: return old > b ? old : b;
+    }
+}
+
+// Carries out an atomic; gives what goes to rd.
+static uint32_t atomic(int five, uint32_t address, uint32_t b) {
+    uint32_t old;
+    access_bytes(address, 4);
+    if (address & 3) fault(7);
+    if (!is_allowed(address, 4, MAY_READ) || (five != 2 && !is_allowed(address, 4, MAY_WRITE))) fault(11);
+    memcpy(&old, memory + address, 4);
+    bool stores = is_reserved && reserved == address;
+    switch (five) {
+    case 2:
+        is_reserved = true;
+        reserved = address;
+        return old;
+    case 3:
+        is_reserved = false;
+        if (stores) memcpy(memory + address, &b, 4);
+        return !stores;
+    default:
+        b = change(five, old, b);
+        memcpy(memory + address, &b, 4);
+        return old;
     }
 }
 
@@ -300,9 +343,11 @@ static bool step(void) {
         break;
     case 0x13: result = compute(three, three == 5 && word >> 30 & 1, a, immediate); break;
     case 0x33: result = word >> 25 == 1 ? multiply(three, a, b) : compute(three, word >> 30 & 1, a, b); break;
+    case 0x2f: result = atomic(word >> 27, a, b); break;
     case 0x73:
         if (word == 0x100073) fault(5);
         call();
+        is_reserved = false;
         writes = false;
         break;
     default: writes = false;
