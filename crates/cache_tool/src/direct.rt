@@ -95,8 +95,12 @@ impl Tool for DirectCache {
         if let Thing::Ins { instr, .. } = thing {
             match instr.op {
                 Op::Lb | Op::Lh | Op::Lw | Op::Lbu | Op::Lhu => ask_access(calls, Arg::ReadEa),
-                Op::LrW | Op::AmoswapW | Op::AmoaddW | Op::AmoxorW | Op::AmoandW | Op::AmoorW => ask_access(calls, Arg::ReadEa),
-                Op::AmominW | Op::AmomaxW | Op::AmominuW | Op::AmomaxuW => ask_access(calls, Arg::ReadEa),
+                Op::LrW | Op::AmoswapW | Op::AmoaddW | Op::AmoxorW | Op::AmoandW | Op::AmoorW =>
+                    ask_access(calls, Arg::ReadEa),
+                Op::AmominW | Op::AmomaxW | Op::AmominuW | Op::AmomaxuW => ask_access(
+                    calls,
+                    Arg::ReadEa,
+                ),
                 Op::Sb | Op::Sh | Op::Sw | Op::ScW => ask_access(calls, Arg::WriteEa),
                 _ => {}
             }

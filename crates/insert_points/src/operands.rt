@@ -61,7 +61,8 @@ impl Operands {
     {
         match self.instr.op {
             Op::Lb | Op::Lh | Op::Lw | Op::Lbu | Op::Lhu => self.address(),
-            Op::LrW | Op::AmoswapW | Op::AmoaddW | Op::AmoxorW | Op::AmoandW | Op::AmoorW => self.address(),
+            Op::LrW | Op::AmoswapW | Op::AmoaddW | Op::AmoxorW | Op::AmoandW | Op::AmoorW =>
+                self.address(),
             Op::AmominW | Op::AmomaxW | Op::AmominuW | Op::AmomaxuW => self.address(),
             _ => 0,
         }
@@ -73,7 +74,8 @@ impl Operands {
     {
         match self.instr.op {
             Op::Sb | Op::Sh | Op::Sw => self.address(),
-            Op::ScW | Op::AmoswapW | Op::AmoaddW | Op::AmoxorW | Op::AmoandW | Op::AmoorW => self.address(),
+            Op::ScW | Op::AmoswapW | Op::AmoaddW | Op::AmoxorW | Op::AmoandW | Op::AmoorW =>
+                self.address(),
             Op::AmominW | Op::AmomaxW | Op::AmominuW | Op::AmomaxuW => self.address(),
             _ => 0,
         }

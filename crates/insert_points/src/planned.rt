@@ -48,7 +48,8 @@ fn read_source(op: Op) -> Source
 {
     match op {
         Op::Lb | Op::Lh | Op::Lw | Op::Lbu | Op::Lhu => Source::Address,
-        Op::LrW | Op::AmoswapW | Op::AmoaddW | Op::AmoxorW | Op::AmoandW | Op::AmoorW => Source::Address,
+        Op::LrW | Op::AmoswapW | Op::AmoaddW | Op::AmoxorW | Op::AmoandW | Op::AmoorW =>
+            Source::Address,
         Op::AmominW | Op::AmomaxW | Op::AmominuW | Op::AmomaxuW => Source::Address,
         _ => Source::Fixed(0),
     }
@@ -59,7 +60,8 @@ fn write_source(op: Op) -> Source
 {
     match op {
         Op::Sb | Op::Sh | Op::Sw => Source::Address,
-        Op::ScW | Op::AmoswapW | Op::AmoaddW | Op::AmoxorW | Op::AmoandW | Op::AmoorW => Source::Address,
+        Op::ScW | Op::AmoswapW | Op::AmoaddW | Op::AmoxorW | Op::AmoandW | Op::AmoorW =>
+            Source::Address,
         Op::AmominW | Op::AmomaxW | Op::AmominuW | Op::AmomaxuW => Source::Address,
         _ => Source::Fixed(0),
     }

@@ -30,7 +30,9 @@ fn takes_copies(rt: HostRuntime) -> Result<(), Fail> {
     assert!(rt; pool.bytes(&first) == [3; 4096].as_slice());
     assert!(rt; pool.bytes(&second) == page.as_slice());
     pool.give(first);
-    let again = pool.take_copy(&page).expect(&rt, "the frame that was given back");
+    let again = pool
+        .take_copy(&page)
+        .expect(&rt, "the frame that was given back");
     assert!(rt; pool.bytes(&again) == page.as_slice());
     Ok(())
 }
