@@ -3,6 +3,7 @@ use Rattle.std.proofs.Common.{◌≡◌, ℕ, zero, suc, ◌*◌, ◌/◌, ◌%�
 use Rattle.std.specs.Prelude.{Option, Some, None}
 use Rattle.std.specs.List.{All}
 use Rattle.std.proofs.lemmas.List.Elements.{All-append, All-nil}
+use Rattle.rv_isa.specs.Arithmetic.{amo_of}
 use Rattle.rv_isa.specs.Decoded.{decoded}
 use Rattle.rv_isa.specs.Kinds.{is_taken, mem_size}
 use Rattle.rv_isa.specs.Table.{Fields}
@@ -11,7 +12,7 @@ use Rattle.rv_isa.specs.declared.op.Op.TheVariants.{Lui, Auipc, Jal, Jalr, Beq, 
 use Rattle.guest_model.specs.Call.{Called, Went, Exits, World, call_with, call_of, finished}
 use Rattle.guest_model.specs.Call as calls
 use Rattle.guest_model.specs.Calls.{Deed, Answers, Takes, Sends, Tells, Maps, Ends, deed_of}
-use Rattle.guest_model.specs.Effect.{Effect, Next, Call, Fault, rs1_value, rs2_value, address, target, goes_on, passes, writes_some, branches, loads, loads_some, stores, stores_some, reserves_some, swaps_into, swaps_some, stores_reserved, conditional_some, machine_at, machine_with, misaligned, effect_by, effect_of, effect_of_instruction, effect_of_word}
+use Rattle.guest_model.specs.Effect.{Effect, Next, Call, Fault, rs1_value, rs2_value, address, target, goes_on, passes, writes_some, branches, loads, loads_some, stores, stores_some, aligned, reserves, reserves_some, swaps, swaps_into, swaps_some, stores_conditionally, stores_reserved, conditional_some, machine_at, machine_with, misaligned, effect_by, effect_of, effect_of_instruction, effect_of_word}
 use Rattle.guest_model.specs.Machine.{Machine, following, is_reserved}
 use Rattle.guest_model.specs.Runs.{RunState, Running, Ended, here}
 use Rattle.guest_model.specs.Serial.{Position, End, TraceItem, completed, item_at, run_of, step_of, trace_of}
@@ -77,7 +78,7 @@ swapped_into m i v (Some s) = wraps _
 
 swapped : (m : Machine) (i : Fields) (o : Option ℕ) → LeavesAddress (swaps_some m i o)
 swapped m i None = tt
-swapped m i (Some v) = swapped_into m i v _
+swapped m i (Some v) = swapped_into m i v (write_number m.space (address m i) 4 (amo_of i.op v (rs2_value m i)))
 
 stored_reserved : (m : Machine) (i : Fields) (is : Bool) (s : Option Space) → LeavesAddress (stores_reserved m i is s)
 stored_reserved m i is None = tt
@@ -86,7 +87,16 @@ stored_reserved m i false (Some s) = wraps _
 
 conditional : (m : Machine) (i : Fields) (o : Option ℕ) → LeavesAddress (conditional_some m i o)
 conditional m i None = tt
-conditional m i (Some v) = stored_reserved m i _ _
+conditional m i (Some v) = stored_reserved m i (is_reserved m.reservation (address m i)) (write_number m.space (address m i) 4 (rs2_value m i))
+
+by_reserve : (m : Machine) (i : Fields) → LeavesAddress (aligned m i (reserves m i))
+by_reserve m i = is_aligned (reserves m i) (address m i % 4 == 0) (reserved m i (read_number Read m.space (address m i) 4))
+
+by_swap : (m : Machine) (i : Fields) → LeavesAddress (aligned m i (swaps m i))
+by_swap m i = is_aligned (swaps m i) (address m i % 4 == 0) (swapped m i (read_number Read m.space (address m i) 4))
+
+by_condition : (m : Machine) (i : Fields) → LeavesAddress (aligned m i (stores_conditionally m i))
+by_condition m i = is_aligned (stores_conditionally m i) (address m i % 4 == 0) (conditional m i (read_number Read m.space (address m i) 4))
 
 by_row : (op : Op) (m : Machine) (i : Fields) → LeavesAddress (effect_by op m i)
 by_row Lui m i = wraps _
@@ -110,17 +120,17 @@ by_row Sw m i = by_store m i
 by_row Fence m i = wraps _
 by_row Ecall m i = tt
 by_row Ebreak m i = tt
-by_row LrW m i = is_aligned _ _ (reserved m i _)
-by_row ScW m i = is_aligned _ _ (conditional m i _)
-by_row AmoswapW m i = is_aligned _ _ (swapped m i _)
-by_row AmoaddW m i = is_aligned _ _ (swapped m i _)
-by_row AmoxorW m i = is_aligned _ _ (swapped m i _)
-by_row AmoandW m i = is_aligned _ _ (swapped m i _)
-by_row AmoorW m i = is_aligned _ _ (swapped m i _)
-by_row AmominW m i = is_aligned _ _ (swapped m i _)
-by_row AmomaxW m i = is_aligned _ _ (swapped m i _)
-by_row AmominuW m i = is_aligned _ _ (swapped m i _)
-by_row AmomaxuW m i = is_aligned _ _ (swapped m i _)
+by_row LrW m i = by_reserve m i
+by_row ScW m i = by_condition m i
+by_row AmoswapW m i = by_swap m i
+by_row AmoaddW m i = by_swap m i
+by_row AmoxorW m i = by_swap m i
+by_row AmoandW m i = by_swap m i
+by_row AmoorW m i = by_swap m i
+by_row AmominW m i = by_swap m i
+by_row AmomaxW m i = by_swap m i
+by_row AmominuW m i = by_swap m i
+by_row AmomaxuW m i = by_swap m i
 by_row _ m i = computed m i _
 
 by_instruction : (m : Machine) (i : Option Fields) → LeavesAddress (effect_of_instruction m i)
