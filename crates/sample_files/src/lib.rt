@@ -5,7 +5,7 @@ mod calls;
 mod files;
 mod guests;
 
-pub use calls::push_call;
+pub use calls::{push_call, set_register};
 pub use files::{
     EDITS, EXIT_7, Edit, LOAD_PAST_DATA, edited, one_segment, symbol_file, two_segments,
 };

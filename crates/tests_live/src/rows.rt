@@ -58,6 +58,17 @@ const WRITE_PAGES: [u32; 14] = [
     0x00650533, 0xfff38393, 0xfe039ae3, 0x05d00893, 0x00700513, 0x00000073,
 ];
 
+/// `lr.w` of the word at 0x20000 and `sc.w`, over an instruction where that did not store, then `exit(7)`.
+const STORE_RESERVED: [u32; 8] = [
+    0x00020337, 0x100322af, 0x185323af, 0x00039463, 0x00100293, 0x05d00893, 0x00700513, 0x00000073,
+];
+
+/// The same with a `getpid` between.
+const CALL_BETWEEN: [u32; 10] = [
+    0x00020337, 0x100322af, 0x0ac00893, 0x00000073, 0x185323af, 0x00039463, 0x00100293, 0x05d00893,
+    0x00700513, 0x00000073,
+];
+
 const ADDS: Row = Row {
     code: &ADD_TWICE,
     data: false,
@@ -104,7 +115,7 @@ const HELLO_CUT: Row = Row {
     ..ADDS
 };
 
-const ROWS: [Row; 17] = [
+const ROWS: [Row; 20] = [
     Row {
         code: &EXIT,
         report: b"icount 3\nend exit 7\n",
@@ -173,6 +184,33 @@ const ROWS: [Row; 17] = [
         cuts: &[5],
         report: b"call 0 0x00010054 0x00010068 -\ncall 1 0x0001006c 0x00010078 -\n\
             call 2 0x0001007c 0x00010088 -\ncall 0 0x00010058 0x00010088 -\nend exit 7\n",
+        ..ADDS
+    },
+    Row {
+        code: &STORE_RESERVED,
+        data: true,
+        words: &["run", "--poll", "1", "f"],
+        pacer: &[false, true],
+        cuts: &[2],
+        report: b"icount 8\nend exit 7\n",
+        ..ADDS
+    },
+    Row {
+        code: &STORE_RESERVED,
+        data: true,
+        words: &["run", "--poll", "1", "f"],
+        pacer: &[true; 7],
+        cuts: &[1, 2, 3, 4, 5, 6, 7],
+        report: b"icount 8\nend exit 7\n",
+        ..ADDS
+    },
+    Row {
+        code: &CALL_BETWEEN,
+        data: true,
+        words: &["run", "--poll", "4", "f"],
+        pacer: &[true],
+        cuts: &[4],
+        report: b"icount 9\nend exit 7\n",
         ..ADDS
     },
     Row {

@@ -1,9 +1,11 @@
 // Values from outside: the words are an assembler's, the results the manual's.
 ghost use Rattle.std.specs.Prelude.{◌≡◌, IfSome, Some};
+ghost use Rattle.rv_isa.specs.Decoded.{decoded};
+ghost use Rattle.rv_isa.specs.Table.{Fields, HasPlainBits, row_of};
 
 use rv_isa::{
-    Instr, Link, Op, alu, decode, encode, instr_text, is_taken, is_terminator, link_kind, loaded,
-    mem_size,
+    Instr, Link, Op, alu, amo, decode, encode, instr_text, is_taken, is_terminator, link_kind,
+    loaded, mem_size,
 };
 use std::alloc::{AllocError, Global};
 use std::test::Fail;
@@ -12,7 +14,7 @@ use std::test::Fail;
 struct Row(u32, &'static str);
 
 // One of each instruction.
-const ROWS: [Row; 48] = [
+const ROWS: [Row; 59] = [
     Row(0x000102b7, "lui x5,0x10"),
     Row(0xffffff97, "auipc x31,0xfffff"),
     Row(0xd54550ef, "jal x1,-699052"),
@@ -61,11 +63,36 @@ const ROWS: [Row; 48] = [
     Row(0x0262d3b3, "divu x7,x5,x6"),
     Row(0x0262e3b3, "rem x7,x5,x6"),
     Row(0x0262f3b3, "remu x7,x5,x6"),
+    Row(0x100522af, "lr.w x5,(x10)"),
+    Row(0x1855232f, "sc.w x6,x5,(x10)"),
+    Row(0x0884a3af, "amoswap.w x7,x8,(x9)"),
+    Row(0x00b6252f, "amoadd.w x10,x11,(x12)"),
+    Row(0x20e7a6af, "amoxor.w x13,x14,(x15)"),
+    Row(0x6119282f, "amoand.w x16,x17,(x18)"),
+    Row(0x414aa9af, "amoor.w x19,x20,(x21)"),
+    Row(0x817c2b2f, "amomin.w x22,x23,(x24)"),
+    Row(0xa1adacaf, "amomax.w x25,x26,(x27)"),
+    Row(0xc1df2e2f, "amominu.w x28,x29,(x30)"),
+    Row(0xe0112faf, "amomaxu.w x31,x1,(x2)"),
 ];
 
 // Words that have no row: zeros, a load of RV64, a shift whose amount has a sixth bit, a branch
-// with an unused function, and ecall with a register.
-const ILLEGAL: [u32; 5] = [0x00000000, 0x00003003, 0x03f61593, 0x00002063, 0x000000f3];
+// with an unused function, and ecall with a register; `lr.w` with a register as rs2, `lr.d` of
+// RV64, and an atomic with an unused code.
+const ILLEGAL: [u32; 8] = [
+    0x00000000, 0x00003003, 0x03f61593, 0x00002063, 0x000000f3, 0x101522af, 0x100532af, 0x285522af,
+];
+
+// An atomic that orders the memory, as the assembler has it, and the one that does not.
+struct Ordered(u32, u32);
+
+// lr.w.aq x5,(x10); sc.w.rl x6,x5,(x10); amoadd.w.aqrl x10,x11,(x12); amomaxu.w.aqrl x31,x1,(x2)
+const ORDERED: [Ordered; 4] = [
+    Ordered(0x140522af, 0x100522af),
+    Ordered(0x1a55232f, 0x1855232f),
+    Ordered(0x06b6252f, 0x00b6252f),
+    Ordered(0xe6112faf, 0xe0112faf),
+];
 
 // Whether the word has this text, and is the word of its instruction.
 fn is_read(alloc: Global, row: &Row) -> Result<bool, AllocError> {
@@ -95,14 +122,23 @@ fn decoded_again(i: &Instr) -> Option<Instr>
     decode(encode(i))
 }
 
-// What is decoded is encoded again, unless it is a fence.
-fn encoded_again(word: u32) -> Option<u32>
-    ensures { IfSome result (λ again. again ≡ word) }
-{
-    match decode(word) {
-        Some(i) if i.op != Op::Fence => Some(encode(&i)),
-        _ => None,
+#[test]
+fn ignores_what_orders_the_memory(rt: HostRuntime) -> Result<(), Fail> {
+    for Ordered(word, plain) in ORDERED.iter() {
+        let instr = decode(*word).ok_or("no row")?;
+        assert!(rt; decode(*plain) == Some(instr), "of {word:08x}");
+        assert!(rt; encode(&instr) == *plain, "of {word:08x}");
     }
+    Ok(())
+}
+
+// What is decoded is encoded again, unless a bit is set that its row ignores.
+fn encoded_again(word: u32) -> Option<u32>
+    ensures { IfSome result (λ again. (i : Fields) → decoded word ≡ Some i
+        → HasPlainBits (row_of i.op) word → again ≡ word) }
+{
+    let i = decode(word)?;
+    Some(encode(&i))
 }
 
 #[test]
@@ -110,8 +146,9 @@ fn goes_there_and_back(rt: HostRuntime) -> Result<(), Fail> {
     let instr = decode(0x0262c3b3).ok_or("no row")?;
     assert!(rt; decoded_again(&instr) == Some(instr));
     assert!(rt; encoded_again(0x0262c3b3) == Some(0x0262c3b3));
-    // fence rw, rw
-    assert!(rt; encoded_again(0x0330000f).is_none());
+    assert!(rt; encoded_again(0x1855232f) == Some(0x1855232f));
+    // fence rw, rw becomes a fence of all accesses
+    assert!(rt; encoded_again(0x0330000f) == Some(0x0ff0000f));
     Ok(())
 }
 
@@ -181,10 +218,102 @@ const RESULTS: [Computed; 9] = [
     },
 ];
 
+// What an atomic stores where the word is `a` and the value of rs2 is `b`.
+const STORED: [Computed; 14] = [
+    Computed {
+        op: Op::AmoswapW,
+        a: 5,
+        b: 7,
+        result: 7,
+    },
+    Computed {
+        op: Op::AmoaddW,
+        a: 0xffffffff,
+        b: 2,
+        result: 1,
+    },
+    Computed {
+        op: Op::AmoxorW,
+        a: 0xff00ff00,
+        b: 0x0ff00ff0,
+        result: 0xf0f0f0f0,
+    },
+    Computed {
+        op: Op::AmoandW,
+        a: 0xff00ff00,
+        b: 0x0ff00ff0,
+        result: 0x0f000f00,
+    },
+    Computed {
+        op: Op::AmoorW,
+        a: 0xff00ff00,
+        b: 0x0ff00ff0,
+        result: 0xfff0fff0,
+    },
+    Computed {
+        op: Op::AmominW,
+        a: 0x80000000,
+        b: 0x7fffffff,
+        result: 0x80000000,
+    },
+    Computed {
+        op: Op::AmominW,
+        a: 0,
+        b: 0xffffffff,
+        result: 0xffffffff,
+    },
+    Computed {
+        op: Op::AmomaxW,
+        a: 0x80000000,
+        b: 0x7fffffff,
+        result: 0x7fffffff,
+    },
+    Computed {
+        op: Op::AmomaxW,
+        a: 0,
+        b: 0xffffffff,
+        result: 0,
+    },
+    Computed {
+        op: Op::AmominuW,
+        a: 0x80000000,
+        b: 0x7fffffff,
+        result: 0x7fffffff,
+    },
+    Computed {
+        op: Op::AmominuW,
+        a: 0,
+        b: 0xffffffff,
+        result: 0,
+    },
+    Computed {
+        op: Op::AmomaxuW,
+        a: 0x80000000,
+        b: 0x7fffffff,
+        result: 0x80000000,
+    },
+    Computed {
+        op: Op::AmomaxuW,
+        a: 0,
+        b: 0xffffffff,
+        result: 0xffffffff,
+    },
+    // the same on both sides
+    Computed {
+        op: Op::AmomaxW,
+        a: 6,
+        b: 6,
+        result: 6,
+    },
+];
+
 #[test]
 fn computes(rt: HostRuntime) {
     for (k, row) in RESULTS.iter().enumerate() {
         assert!(rt; alu(row.op, row.a, row.b) == Some(row.result), "result {k}");
+    }
+    for (k, row) in STORED.iter().enumerate() {
+        assert!(rt; amo(row.op, row.a, row.b) == row.result, "stored {k}");
     }
     assert!(rt; is_taken(Op::Blt, 0xffffffff, 0));
     assert!(rt; loaded(Op::Lb, 0x80) == 0xffffff80);
@@ -192,12 +321,16 @@ fn computes(rt: HostRuntime) {
 
 #[test]
 fn sorts(rt: HostRuntime) -> Result<(), Fail> {
-    // jal x1, 20; jalr x0, 0(x1); lh x7, -2048(x8)
+    // jal x1, 20; jalr x0, 0(x1); lh x7, -2048(x8); lr.w x5, (x10); sc.w x6, x5, (x10)
     let call = decode(0x014000ef).ok_or("no row")?;
     let back = decode(0x00008067).ok_or("no row")?;
     let load = decode(0x80041383).ok_or("no row")?;
     assert!(rt; link_kind(&call) == Link::Push && link_kind(&back) == Link::Pop);
     assert!(rt; is_terminator(&call) && !is_terminator(&load));
     assert!(rt; mem_size(&load) == 2);
+    for word in [0x100522af, 0x1855232f] {
+        let atomic = decode(word).ok_or("no row")?;
+        assert!(rt; mem_size(&atomic) == 4 && !is_terminator(&atomic));
+    }
     Ok(())
 }

@@ -9,11 +9,11 @@ use sample_files::{EXIT_7, LOAD_PAST_DATA, guest_of, one_segment, two_segments};
 use std::alloc::{AllocError, Global};
 use std::test::Fail;
 
-const NEXT: Stepped = Stepped::Next;
+pub(crate) const NEXT: Stepped = Stepped::Next;
 
-const ACCESS: Stepped = Stepped::Fault(FaultKind::Access);
+pub(crate) const ACCESS: Stepped = Stepped::Fault(FaultKind::Access);
 
-const MISALIGNED: Stepped = Stepped::Fault(FaultKind::Misaligned);
+pub(crate) const MISALIGNED: Stepped = Stepped::Fault(FaultKind::Misaligned);
 
 #[test]
 fn exits(rt: HostRuntime) -> Result<(), Fail> {
@@ -39,7 +39,7 @@ fn statuses(rt: HostRuntime) {
 }
 
 // Makes this many steps that complete, and answers what the next one is.
-fn step_after(guest: &mut Guest, steps: u32) -> Option<Stepped>
+pub(crate) fn step_after(guest: &mut Guest, steps: u32) -> Option<Stepped>
     requires { guest.old.frames.count ≡ 16384 }
     ensures { guest.new.frames.count ≡ 16384 }
 {

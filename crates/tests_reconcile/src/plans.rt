@@ -8,9 +8,11 @@ use std::test::Fail;
 use tool_calls::CallTrace;
 use tool_law::make_plan;
 
-// `lw x5,4(x6)`, `sh x5,-2(x6)`, `jal x1,0`, `jalr x0,2(x1)`, `jalr x1,0(x5)`, `jal x0,0`, `beq x0,x0,0`.
-const CODE: [u32; 7] = [
-    0x00432283, 0xfe531f23, 0x000000ef, 0x00208067, 0x000280e7, 0x0000006f, 0x00000063,
+// `lw x5,4(x6)`, `sh x5,-2(x6)`, `jal x1,0`, `jalr x0,2(x1)`, `jalr x1,0(x5)`, `jal x0,0`, `beq x0,x0,0`; from the seventh on
+// `lr.w x7,(x5)`, `sc.w x7,x6,(x5)`, `amoswap.w x7,x6,(x5)` and `amomaxu.w x7,x6,(x5)`.
+const CODE: [u32; 11] = [
+    0x00432283, 0xfe531f23, 0x000000ef, 0x00208067, 0x000280e7, 0x0000006f, 0x00000063, 0x1002a3af,
+    0x1862a3af, 0x0862a3af, 0xe062a3af,
 ];
 
 // A step of the k-th word, where x1 has 0x30001, x5 has 0x40000 and x6 has 0xfffffffe.
@@ -50,6 +52,14 @@ fn accesses(rt: HostRuntime) -> Result<(), Fail> {
     assert!(rt; gives(&plan, &step(0, None)?, 0, 2, 4));
     assert!(rt; gives(&plan, &step(1, Some(0x1005c))?, 0, 0xfffffffc, 2));
     assert!(rt; fire(&plan, &step(2, Some(0x1005c))?).is_empty());
+    // an atomic is one access, also one that reads and writes
+    for k in 7..11 {
+        let next = 0x10058 + 4 * k as u32;
+        assert!(rt;
+            gives(&plan, &step(k, Some(next))?, 0, 0x40000, 4),
+            "word {k}"
+        );
+    }
     Ok(())
 }
 

@@ -32,6 +32,22 @@ pub const WAIT_A_SECOND: [u32; 12] = [
 // Loads four bytes across the end of the data.
 pub const LOAD_PAST_DATA: [u32; 2] = [0x000222b7, 0xffe2a303];
 
+// Reserves the word at 0x20000 by `lr.w`, stores there by `sc.w`, adds an instruction where that was done, and exits with 7, in 8
+// steps.
+pub const STORE_RESERVED: [u32; 8] = [
+    0x00020337, 0x100322af, 0x185323af, 0x00039463, 0x00100293, 0x05d00893, 0x00700513, 0x00000073,
+];
+
+// The same with a getpid between, behind which nothing is reserved, in 9 steps.
+pub const CALL_BETWEEN: [u32; 10] = [
+    0x00020337, 0x100322af, 0x0ac00893, 0x00000073, 0x185323af, 0x00039463, 0x00100293, 0x05d00893,
+    0x00700513, 0x00000073,
+];
+
+// Reserves the word at 0x20000, and stores zeros there by `sc.w` again and again, in a loop of two steps. At positions 3, 5 and so
+// on all is the same but the reservation, which is there at the first alone.
+pub const RESERVED_ONCE: [u32; 5] = [0x00020337, 0x1003202f, 0x0040006f, 0x1803202f, 0xffdff06f];
+
 // A piece of a run: it begins behind so many steps and calls, and has so many steps, or lasts to the end of the run.
 #[derive(Clone, Copy)]
 pub struct Cut {

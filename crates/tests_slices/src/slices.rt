@@ -1,7 +1,9 @@
 // What slices of jobs give.
 ghost use Rattle.std.specs.Prelude.{◌≡◌, IfOk};
 
-use crate::cuts::{ADD_TWICE, Cut, FOUR_TURNS, THREE_TURNS, parts_of};
+use crate::cuts::{
+    ADD_TWICE, CALL_BETWEEN, Cut, FOUR_TURNS, RESERVED_ONCE, STORE_RESERVED, THREE_TURNS, parts_of,
+};
 use boundary_verify::Job;
 use elf_load::load;
 use ins_views::Views;
@@ -57,7 +59,7 @@ struct Row {
     hits: [u64; 4],
 }
 
-const ROWS: [Row; 5] = [
+const ROWS: [Row; 7] = [
     // three positions before the last one pass all but the whole test
     Row {
         cut: FOUR_TURNS,
@@ -104,6 +106,30 @@ const ROWS: [Row; 5] = [
         calls: 0,
         hits: [1, 1, 1, 1],
     },
+    // the reservation alone tells one position from the end
+    Row {
+        cut: Cut {
+            code: &RESERVED_ONCE,
+            steps: Some(5),
+            ..FOUR_TURNS
+        },
+        steps: 5,
+        calls: 0,
+        hits: [2, 2, 2, 1],
+    },
+    // from a call on, behind which nothing is reserved
+    Row {
+        cut: Cut {
+            code: &CALL_BETWEEN,
+            from: 4,
+            calls: 1,
+            steps: None,
+            ahead: 0,
+        },
+        steps: 5,
+        calls: 0,
+        hits: [0, 0, 0, 0],
+    },
 ];
 
 #[test]
@@ -123,6 +149,28 @@ fn steps_calls_and_hits(rt: HostRuntime) -> Result<(), Fail> {
             "row {k}"
         );
         assert!(rt; hits == row.hits, "row {k}");
+    }
+    Ok(())
+}
+
+// What is reserved goes over each cut: the two pieces have the steps of the whole.
+#[test]
+fn a_reservation_that_is_cut(rt: HostRuntime) -> Result<(), Fail> {
+    let alloc = rt.alloc();
+    for k in 1..8 {
+        let first = Cut {
+            code: &STORE_RESERVED,
+            steps: Some(k),
+            ..FOUR_TURNS
+        };
+        let last = Cut {
+            from: k,
+            steps: None,
+            ..first
+        };
+        let before = piece_of(alloc, &InsCount, 0, &first)?;
+        let behind = piece_of(alloc, &InsCount, 1, &last)?;
+        assert!(rt; before.steps == k && behind.steps == 8 - k, "cut {k}");
     }
     Ok(())
 }

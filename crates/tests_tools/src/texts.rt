@@ -65,11 +65,31 @@ fn blocks(rt: HostRuntime) -> Result<(), Fail> {
 fn names(rt: HostRuntime) -> Result<(), Fail> {
     let alloc = rt.alloc();
     let views = views(alloc)?;
-    // addi is 18, lui 0, ecall 38 and remu 47; no name has the place 48
-    let first = [own(18), own(0), own(18), own(38), own(18), event(1, 1)];
-    let second = [own(18), own(48), own(18), own(47), own(18), own(38)];
+    // addi is 18, lui 0, ecall 38, remu 47, lr.w 48, sc.w 49 and amomaxu.w 58; no name has the place 59
+    let first = [
+        own(18),
+        own(0),
+        own(18),
+        own(38),
+        own(18),
+        event(1, 1),
+        own(49),
+    ];
+    let second = [
+        own(18),
+        own(59),
+        own(18),
+        own(47),
+        own(18),
+        own(38),
+        own(49),
+        own(48),
+        own(58),
+    ];
     let text = text_of(alloc, &OpMix, &views, &first, &second)?;
-    assert!(rt; text.as_slice() == "mix lui 1\nmix addi 6\nmix ecall 2\nmix remu 1\n".as_bytes());
+    let lines =
+        "mix lui 1\nmix addi 6\nmix ecall 2\nmix remu 1\nmix lr.w 1\nmix sc.w 2\nmix amomaxu.w 1\n";
+    assert!(rt; text.as_slice() == lines.as_bytes());
     Ok(())
 }
 

@@ -22,6 +22,17 @@ pub(crate) const READ_TWICE: [u32; 10] = [
     0x00700513, 0x00000073,
 ];
 
+/// `lr.w` of the word at 0x20000 and `sc.w`, over an instruction where that did not store, then `exit(7)`.
+pub(crate) const STORE_RESERVED: [u32; 8] = [
+    0x00020337, 0x100322af, 0x185323af, 0x00039463, 0x00100293, 0x05d00893, 0x00700513, 0x00000073,
+];
+
+/// The same with a `getpid` between.
+pub(crate) const CALL_BETWEEN: [u32; 10] = [
+    0x00020337, 0x100322af, 0x0ac00893, 0x00000073, 0x185323af, 0x00039463, 0x00100293, 0x05d00893,
+    0x00700513, 0x00000073,
+];
+
 /// The file `f`, an input, moments, and a plan of faults.
 #[derive(Drop)]
 pub(crate) struct Outside {

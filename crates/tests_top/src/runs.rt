@@ -1,6 +1,9 @@
 // Runs that end. Each count is of the manual's instructions by hand, and each result of a call that
 // of Linux.
-use crate::outside::{HELLO, READ_TWICE, SERIAL, are, has_one_line, is_ended, outside_of, run};
+use crate::outside::{
+    CALL_BETWEEN, HELLO, READ_TWICE, SERIAL, STORE_RESERVED, are, has_one_line, is_ended,
+    outside_of, run,
+};
 use sample_files::{EXIT_7, LOAD_PAST_DATA, one_segment, two_segments};
 use std::alloc::{AllocError, Global};
 use std::test::Fail;
@@ -57,7 +60,7 @@ fn holds<R: Threads + Sync>(rt: &R, alloc: Global, row: &Row) -> Result<bool, Fa
     )
 }
 
-const EXITS: [Row; 4] = [
+const EXITS: [Row; 5] = [
     QUIET,
     Row {
         code: &HELLO,
@@ -90,6 +93,14 @@ const EXITS: [Row; 4] = [
         steps: 5,
         ..QUIET
     },
+    // `lr.w` and `sc.w`, and an instruction more where that stored.
+    Row {
+        data: true,
+        code: &STORE_RESERVED,
+        report: b"icount 8\nend exit 7\n",
+        steps: 8,
+        ..QUIET
+    },
 ];
 
 #[test]
@@ -101,7 +112,7 @@ fn programs_exit(rt: HostRuntime) -> Result<(), Fail> {
     Ok(())
 }
 
-const CALLS: [Row; 6] = [
+const CALLS: [Row; 7] = [
     // A write to descriptor 3 is EBADF, of a byte that is not mapped EFAULT, of no bytes 0: the
     // exit shows the result.
     Row {
@@ -167,6 +178,15 @@ const CALLS: [Row; 6] = [
         calls: 1,
         ..QUIET
     },
+    // `lr.w`, getpid, and `sc.w`, which does not store behind a call.
+    Row {
+        data: true,
+        code: &CALL_BETWEEN,
+        report: b"icount 9\nend exit 7\n",
+        steps: 9,
+        calls: 1,
+        ..QUIET
+    },
 ];
 
 #[test]
@@ -178,10 +198,18 @@ fn programs_call(rt: HostRuntime) -> Result<(), Fail> {
     Ok(())
 }
 
-const SIGNALS: [Row; 5] = [
+const SIGNALS: [Row; 6] = [
     // jalr to an address that is no multiple of 4.
     Row {
         code: &[0x000102b7, 0x002280e7],
+        report: b"icount 2\nend signal 7 at 0x00010058\n",
+        steps: 2,
+        status: 135,
+        ..QUIET
+    },
+    // An atomic at an address that is no multiple of 4: addi x5, x0, 2, and amoadd.w x7, x6, (x5).
+    Row {
+        code: &[0x00200293, 0x0062a3af],
         report: b"icount 2\nend signal 7 at 0x00010058\n",
         steps: 2,
         status: 135,

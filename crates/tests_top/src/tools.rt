@@ -1,6 +1,6 @@
 // Each tool on whole runs. The counts are by hand, of the manual's instructions, and of the rule that a block is the run of
 // words from an address on that are instructions, up to and including the first that ends it.
-use crate::outside::{HELLO, are, is_ended, is_refused, outside_of, run};
+use crate::outside::{HELLO, STORE_RESERVED, are, is_ended, is_refused, outside_of, run};
 use sample_files::{EXIT_7, LOAD_PAST_DATA, one_segment, two_segments};
 use std::alloc::{AllocError, Global};
 use std::test::Fail;
@@ -19,7 +19,7 @@ struct Row {
     status: u8,
 }
 
-const ROWS: [Row; 6] = [
+const ROWS: [Row; 7] = [
     Row {
         data: false,
         code: &[0x00100293, 0x00128293, 0x05d00893, 0x00700513, 0x00000073],
@@ -52,6 +52,17 @@ const ROWS: [Row; 6] = [
         bcount: "bcount 12 45\n",
         mix: "mix lui 1\nmix jal 5\nmix beq 6\nmix lw 6\nmix sw 6\nmix addi 14\nmix sub 6\nmix ecall 1\n",
         blocks: "block 0x00010074 7 1 -\nblock 0x0001007c 5 5 -\nblock 0x00010090 2 5 -\nblock 0x00010098 3 1 -\n",
+        end: "end exit 7\n",
+        status: 7,
+    },
+    // `lr.w` and `sc.w`, behind the others in the table.
+    Row {
+        data: true,
+        code: &STORE_RESERVED,
+        icount: "icount 8\n",
+        bcount: "bcount 2 8\n",
+        mix: "mix lui 1\nmix bne 1\nmix addi 3\nmix ecall 1\nmix lr.w 1\nmix sc.w 1\n",
+        blocks: "block 0x00010074 4 1 -\nblock 0x00010084 4 1 -\n",
         end: "end exit 7\n",
         status: 7,
     },
@@ -153,7 +164,7 @@ const NESTED: [u32; 14] = [
     0x00008067, 0x00008493, 0x00c000ef, 0x00048093, 0x00008067, 0x00008067,
 ];
 
-const RECONCILED: [Reconciled; 5] = [
+const RECONCILED: [Reconciled; 6] = [
     Reconciled {
         data: true,
         code: &TWO_LOADS,
@@ -166,6 +177,16 @@ const RECONCILED: [Reconciled; 5] = [
         code: &TWO_LOADS,
         tool: "cache:1:4",
         text: "cache 1 4 accesses 2 hits 0 misses 2\nend exit 7\n",
+        status: 7,
+    },
+    // An atomic that reads and writes is one access: lui x6, 0x20, twice amoadd.w x5, x6, (x6), then exit(7).
+    Reconciled {
+        data: true,
+        code: &[
+            0x00020337, 0x006322af, 0x006322af, 0x05d00893, 0x00700513, 0x00000073,
+        ],
+        tool: "cache:2:16",
+        text: "cache 2 16 accesses 2 hits 1 misses 1\nend exit 7\n",
         status: 7,
     },
     // The load faults, and is an access to two lines: it is called for before it is tried.

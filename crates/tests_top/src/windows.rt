@@ -1,5 +1,8 @@
 // Runs by windows, which is the usual way. Each count is of the manual's instructions by hand, as the positions of cuts are.
-use crate::outside::{HELLO, Wanted, are, has_no_line, is_cut, is_refused, outside_of, run_paced};
+use crate::outside::{
+    CALL_BETWEEN, HELLO, STORE_RESERVED, Wanted, are, has_no_line, is_cut, is_refused, outside_of,
+    run_paced,
+};
 use sample_files::{one_segment, two_segments};
 use sp_host::Port;
 use std::alloc::{AllocError, Global};
@@ -89,7 +92,7 @@ const HELLO_CUT: Row = Row {
     ..ADDS
 };
 
-const ROWS: [Row; 12] = [
+const ROWS: [Row; 15] = [
     ADDS,
     Row {
         words: &["run", "--poll", "1", "--tool", "bcount", "f"],
@@ -145,6 +148,31 @@ const ROWS: [Row; 12] = [
         cuts: &[5],
         report: b"call 0 0x00010054 0x00010068 -\ncall 1 0x0001006c 0x00010078 -\n\
             call 2 0x0001007c 0x00010088 -\ncall 0 0x00010058 0x00010088 -\nend exit 7\n",
+        ..ADDS
+    },
+    Row {
+        code: &STORE_RESERVED,
+        data: true,
+        words: &["run", "--poll", "1", "f"],
+        report: b"icount 8\nend exit 7\n",
+        ..ADDS
+    },
+    Row {
+        code: &STORE_RESERVED,
+        data: true,
+        words: &["run", "--poll", "1", "--tool", "cache:2:16", "f"],
+        pacer: &[true; 7],
+        cuts: &[1, 2, 3, 4, 5, 6, 7],
+        report: b"cache 2 16 accesses 2 hits 1 misses 1\nend exit 7\n",
+        ..ADDS
+    },
+    Row {
+        code: &CALL_BETWEEN,
+        data: true,
+        words: &["run", "--poll", "4", "f"],
+        pacer: &[true],
+        cuts: &[4],
+        report: b"icount 9\nend exit 7\n",
         ..ADDS
     },
     Row {

@@ -130,6 +130,25 @@ fn events_in_order(rt: HostRuntime) -> Result<(), Fail> {
     Ok(())
 }
 
+// `lr.w x5,(x6)`, `sc.w x5,x7,(x6)` and `amoadd.w x5,x7,(x6)`, and where each reads and writes.
+const ATOMICS: [(u32, u32, u32); 3] = [
+    (0x100322af, 0x20000, 0),
+    (0x187322af, 0, 0x20000),
+    (0x007322af, 0x20000, 0x20000),
+];
+
+#[test]
+fn events_of_atomics(rt: HostRuntime) -> Result<(), Fail> {
+    for (k, (word, reads, writes)) in ATOMICS.iter().enumerate() {
+        let instr = decode(*word).ok_or("no row")?;
+        let plan = kinds(rt.alloc(), instr)?;
+        let events = fire(&plan, &step(0x1007c, instr, Some(0x10080)));
+        assert!(rt; is_event(&events, 2, 5, [3, *reads, *writes, 4]), "row {k}");
+        assert!(rt; is_event(&events, 3, 4, [4, 0, *reads, 0]), "row {k}");
+    }
+    Ok(())
+}
+
 #[test]
 fn calls_made_ready(rt: HostRuntime) -> Result<(), Fail> {
     let lw = decode(0xffc32283).ok_or("no row")?;

@@ -11,6 +11,8 @@ pub enum Program {
     ReadAll,
     WritePages,
     HelloAndMore,
+    StoreReserved,
+    CallBetween,
 }
 
 // li x5, 1; x5 += 1; exit with 7.
@@ -48,7 +50,18 @@ const HELLO_AND_MORE: [u32; 11] = [
     0x00000073, 0x6c6c6568, 0x00000a6f,
 ];
 
-// The file of a program. Two have a second segment, of two pages of zeros at 0x20000.
+// Reserves the word at 0x20000 by `lr.w`, stores there by `sc.w`, adds an instruction where that was done, and exits with 7.
+const STORE_RESERVED: [u32; 8] = [
+    0x00020337, 0x100322af, 0x185323af, 0x00039463, 0x00100293, 0x05d00893, 0x00700513, 0x00000073,
+];
+
+// The same with a getpid between, behind which nothing is reserved.
+const CALL_BETWEEN: [u32; 10] = [
+    0x00020337, 0x100322af, 0x0ac00893, 0x00000073, 0x185323af, 0x00039463, 0x00100293, 0x05d00893,
+    0x00700513, 0x00000073,
+];
+
+// The file of a program. Four have a second segment, of two pages of zeros at 0x20000.
 pub fn file_of(alloc: Global, program: Program) -> Result<Vec<u8>, AllocError> {
     match program {
         Program::AddTwice => one_segment(alloc, &ADD_TWICE),
@@ -57,6 +70,8 @@ pub fn file_of(alloc: Global, program: Program) -> Result<Vec<u8>, AllocError> {
         Program::ReadAll => one_segment(alloc, &READ_ALL),
         Program::WritePages => one_segment(alloc, &WRITE_PAGES),
         Program::HelloAndMore => one_segment(alloc, &HELLO_AND_MORE),
+        Program::StoreReserved => two_segments(alloc, &STORE_RESERVED),
+        Program::CallBetween => two_segments(alloc, &CALL_BETWEEN),
     }
 }
 

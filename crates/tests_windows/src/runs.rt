@@ -42,7 +42,7 @@ const WAITED: Row = Row {
     ..ADDED
 };
 
-const ROWS: [Row; 9] = [
+const ROWS: [Row; 12] = [
     ADDED,
     // it is asked after the first four steps, for the fifth ends the run
     Row {
@@ -77,6 +77,29 @@ const ROWS: [Row; 9] = [
         ..ADDED
     },
     WAITED,
+    // a cut between `lr.w` and `sc.w`
+    Row {
+        program: Program::StoreReserved,
+        lines: &[(2, 0), (6, 0)],
+        ..ADDED
+    },
+    // a cut at each step
+    Row {
+        program: Program::StoreReserved,
+        answers: &[true; 7],
+        cuts: &[1, 2, 3, 4, 5, 6, 7],
+        lines: &[(1, 0); 8],
+        ..ADDED
+    },
+    // a cut behind a call, which ends the reservation
+    Row {
+        program: Program::CallBetween,
+        bounds: Bounds { poll: 4, ..BOUNDS },
+        answers: &[true],
+        cuts: &[4],
+        lines: &[(4, 1), (5, 0)],
+        ..ADDED
+    },
     // two calls make a cut
     Row {
         bounds: Bounds {
