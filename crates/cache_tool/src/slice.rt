@@ -33,7 +33,7 @@ pub struct CacheTotals {
 
 impl CacheSlice {
     /// Takes an access to a line.
-    #[inline(always)]
+    #[inline(never)]
     pub(crate) fn note(&mut self, line: u32)
         ensures bits { self.new.line_bits ≡ self.old.line_bits }
         ensures mask { self.new.set_mask ≡ self.old.set_mask }

@@ -31,7 +31,8 @@ pub(crate) enum Turn {
     Over(End),
 }
 
-// The call at which the guest stands, served: the events before it were given.
+// The call at which the guest stands, served: the events before it were given. Out of line, so that the step stays short.
+#[inline(never)]
 fn call<T: Tool, H: Host>(
     alloc: Global,
     plan: &Plan,
@@ -63,6 +64,7 @@ fn call<T: Tool, H: Host>(
 }
 
 /// Tries the instruction at pc, gives the step's events to the tool, and serves a call.
+#[inline(always)]
 pub(crate) fn step<T: Tool, H: Host>(
     alloc: Global,
     plan: &Plan,
@@ -86,7 +88,7 @@ pub(crate) fn step<T: Tool, H: Host>(
     ensures count { OnOk result (guest.new.frames.count ≡ guest.old.frames.count) }
 {
     let pc = guest.pc();
-    match tool_step_in::<T, Turn>(plan, tool, guest, local) {
+    match tool_step_in::<T, H>(plan, tool, guest, local) {
         Ok(Stepped::Next) => Ok(Turn::Next),
         Ok(Stepped::Call) => call(alloc, plan, tool, guest, local, host),
         Ok(Stepped::Fault(kind)) => Ok(Turn::Over(End::Signal { kind, pc })),

@@ -33,7 +33,9 @@ fn entry_at(job: &Job, calls: u64) -> Option<&Record>
     record_for(&job.records, job.position, calls)
 }
 
-// The call at which the guest stands, played: the events before it were given. False where no record is left for it.
+// The call at which the guest stands, played: the events before it were given. False where no record is left for it. Out
+// of line, so that the turn stays short.
+#[inline(never)]
 fn play_call<T: Tool>(
     plan: &Plan,
     tool: &T,

@@ -23,9 +23,10 @@ pub(crate) fn is_nothing(called: &CallsAt<'_>) -> bool
     heads + instruction == 0
 }
 
-/// Gives the events of these calls, with the registers at their point.
+// Gives the events of these calls, with the registers at their point. `W` names an instance, as that of `Guest::step_by`: what is
+// put into one place is named by that place.
 #[inline(always)]
-fn give<T: Tool>(
+fn give<T: Tool, W>(
     tool: &T,
     calls: &[PlannedCall],
     operands: &Operands,
@@ -81,7 +82,7 @@ fn give_block<T: Tool>(
     ensures steady { T.GROWS ≡ false → IsOk result }
 {
     if guest.fresh() {
-        give(tool, calls, operands, guest.registers(), local)
+        give::<T, ()>(tool, calls, operands, guest.registers(), local)
     } else {
         Ok(())
     }
@@ -105,9 +106,9 @@ pub(crate) fn give_early<T: Tool>(
         local.old local.new) }
     ensures steady { T.GROWS ≡ false → IsOk result }
 {
-    give(tool, called.routine, operands, guest.registers(), local)?;
+    give::<T, ()>(tool, called.routine, operands, guest.registers(), local)?;
     give_block(tool, called.block, operands, guest, local)?;
-    give(tool, called.before, operands, guest.registers(), local)
+    give::<T, ()>(tool, called.before, operands, guest.registers(), local)
 }
 
 /// Gives the events behind the instruction, which completed.
@@ -126,9 +127,9 @@ pub(crate) fn give_late<T: Tool>(
     ensures steady { T.GROWS ≡ false → IsOk result }
 {
     if operands.jumps() {
-        give(tool, called.taken, operands, guest.registers(), local)
+        give::<T, ()>(tool, called.taken, operands, guest.registers(), local)
     } else {
-        give(tool, called.after, operands, guest.registers(), local)
+        give::<T, ()>(tool, called.after, operands, guest.registers(), local)
     }
 }
 
@@ -148,7 +149,7 @@ fn operands_by(guest: &Guest, i: &Instr) -> Operands
 
 // Gives the events of these calls before the instruction. What their arguments are read from is looked up where there are any.
 #[inline(always)]
-fn give_by<T: Tool>(
+fn give_by<T: Tool, W>(
     tool: &T,
     calls: &[PlannedCall],
     i: &Instr,
@@ -165,13 +166,13 @@ fn give_by<T: Tool>(
         return Ok(());
     }
     let operands = operands_by(guest, i);
-    give(tool, calls, &operands, guest.registers(), local)?;
+    give::<T, W>(tool, calls, &operands, guest.registers(), local)?;
     Ok(())
 }
 
 // The same of a block's calls, where the block begins here.
 #[inline(always)]
-fn give_block_by<T: Tool>(
+fn give_block_by<T: Tool, W>(
     tool: &T,
     calls: &[PlannedCall],
     i: &Instr,
@@ -189,13 +190,13 @@ fn give_block_by<T: Tool>(
     if !guest.fresh() {
         return Ok(());
     }
-    give_by(tool, calls, i, guest, local)?;
+    give_by::<T, W>(tool, calls, i, guest, local)?;
     Ok(())
 }
 
 // Gives the events that come before the instruction, of calls that were found.
 #[inline(always)]
-fn give_found_early<T: Tool>(
+fn give_found_early<T: Tool, W>(
     tool: &T,
     found: &Found<'_>,
     i: &Instr,
@@ -214,15 +215,15 @@ fn give_found_early<T: Tool>(
         local.old local.new) }
     ensures steady { T.GROWS ≡ false → IsOk result }
 {
-    give_by(tool, found.routine(), i, guest, local)?;
-    give_block_by(tool, found.block(), i, guest, local)?;
-    give_by(tool, found.before(), i, guest, local)?;
+    give_by::<T, W>(tool, found.routine(), i, guest, local)?;
+    give_block_by::<T, W>(tool, found.block(), i, guest, local)?;
+    give_by::<T, W>(tool, found.before(), i, guest, local)?;
     Ok(())
 }
 
 /// Gives the events of the step by this instruction, if nothing is called behind it. False where something is: then none are given.
 #[inline(always)]
-pub(crate) fn gives_plain<T: Tool>(
+pub(crate) fn gives_plain<T: Tool, W>(
     plan: &Plan,
     tool: &T,
     i: &Instr,
@@ -244,7 +245,7 @@ pub(crate) fn gives_plain<T: Tool>(
             if found.count_late() != 0 {
                 return Ok(false);
             }
-            give_found_early(tool, &found, i, guest, local)?;
+            give_found_early::<T, W>(tool, &found, i, guest, local)?;
             Ok(true)
         }
     }

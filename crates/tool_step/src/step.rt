@@ -78,7 +78,7 @@ pub fn tool_step_in<T: Tool, W>(
     match guest.kept() {
         None => tool_step(plan, tool, guest, local),
         Some(i) => {
-            if !gives_plain(plan, tool, &i, guest, local)? {
+            if !gives_plain::<T, W>(plan, tool, &i, guest, local)? {
                 return tool_step(plan, tool, guest, local);
             }
             Ok(guest.step_by::<(T, W)>(&i))
