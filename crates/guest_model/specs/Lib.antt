@@ -3,6 +3,7 @@ pub mod Bytes
 pub mod Range
 pub mod Space
 pub mod Added
+pub mod Descriptors
 pub mod Machine
 pub mod Errors
 pub mod Maps

@@ -1,9 +1,10 @@
 -- A guest's machine: one hart of RV32IMA with its memory (RISC-V unprivileged manual, "Programmers' Model for Base Integer ISA").
-use Rattle.std.specs.Prelude.{ℕ, ◌+◌, ◌==◌, Bool, false, List, Option, None, Some, slice_index, slice_set, if◌then◌else◌, option_and_then, refl}
+use Rattle.std.specs.Prelude.{ℕ, ◌+◌, ◌==◌, Bool, false, true, List, Option, None, Some, slice_index, slice_set, if◌then◌else◌, option_and_then, refl}
 use Rattle.std.specs.Coded.{Coded, coded_ℕ, coded_bool, coded_list, coded_option, coded×, code_by}
 use Rattle.rv_isa.specs.Table.{Fields}
 use Rattle.rv_isa.specs.Decoded.{decoded}
 use Rattle.guest_model.specs.Areas.{wrap}
+use Rattle.guest_model.specs.Descriptors.{Descriptors, all_closed, descriptors_code}
 use Rattle.guest_model.specs.Space.{Space, read_number, space_code}
 use Rattle.guest_model.specs.declared.Access.TheVariants.{Execute}
 
@@ -17,6 +18,11 @@ pub record Machine : Type 0 where
   pub fresh : Bool
   -- the address that lr.w reserved, where no sc.w and no call came since ("Load-Reserved/Store-Conditional Instructions")
   pub reservation : Option ℕ
+  pub descriptors : Descriptors
+
+-- the machine at its first instruction: no file is open, and nothing is reserved
+abbrev pub at_start : ℕ → List ℕ → Space → Machine
+at_start pc registers space = record { pc = pc; registers = registers; space = space; fresh = true; reservation = None; descriptors = all_closed }
 
 -- the value of a register
 abbrev pub register : Machine → ℕ → ℕ
@@ -41,6 +47,7 @@ instruction_at m = option_and_then decoded (read_number Execute m.space m.pc 4)
 
 -- how a machine is stored as plain data
 abbrev pub machine_code : Coded Machine
-machine_code = code_by (ℕ × (List ℕ × (Space × (Bool × Option ℕ)))) (coded× coded_ℕ (coded× (coded_list coded_ℕ) (coded× space_code (coded× coded_bool (coded_option coded_ℕ)))))
-    (λ m. (m.pc, (m.registers, (m.space, (m.fresh, m.reservation)))))
-    (λ p. record { pc = p.0; registers = p.1.0; space = p.1.1.0; fresh = p.1.1.1.0; reservation = p.1.1.1.1 }) (λ _. refl)
+machine_code = code_by (ℕ × (List ℕ × (Space × (Bool × (Option ℕ × Descriptors)))))
+    (coded× coded_ℕ (coded× (coded_list coded_ℕ) (coded× space_code (coded× coded_bool (coded× (coded_option coded_ℕ) descriptors_code)))))
+    (λ m. (m.pc, (m.registers, (m.space, (m.fresh, (m.reservation, m.descriptors))))))
+    (λ p. record { pc = p.0; registers = p.1.0; space = p.1.1.0; fresh = p.1.1.1.0; reservation = p.1.1.1.1.0; descriptors = p.1.1.1.1.1 }) (λ _. refl)

@@ -45,6 +45,15 @@ pub const MOST_RANGES: u32 = 1024;
 /// The most ranges of its array that readv uses.
 pub const MOST_USED: usize = 8;
 
+/// The first descriptor that openat gives: 0 is the standard input, 1 the standard output and 2 the standard error.
+pub const FIRST_FILE: u32 = 3;
+
+/// The most files that are open at once.
+pub const MOST_FILES: usize = 16;
+
+/// The most bytes of an open file's name.
+pub const MOST_NAME: usize = 255;
+
 /// The bytes of a timespec: seconds and nanoseconds, each a number of 64 bits.
 pub const TIMESPEC_SIZE: u32 = 16;
 

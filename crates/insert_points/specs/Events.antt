@@ -5,7 +5,7 @@ use Rattle.std.specs.Option.{option_map}
 use Rattle.rv_isa.specs.declared.view.StepView.{StepView}
 use Rattle.guest_model.specs.Added.{empty_space}
 use Rattle.guest_model.specs.Effect.{rs1_value, rs2_value}
-use Rattle.guest_model.specs.Machine.{Machine}
+use Rattle.guest_model.specs.Machine.{Machine, at_start}
 use Rattle.guest_model.specs.Serial.{TraceItem}
 use Rattle.insert_points.specs.Arguments.{jumps, value_of}
 use Rattle.insert_points.specs.declared.call.Event.{Event}
@@ -76,7 +76,7 @@ pub record Shows (view : StepView) (item : TraceItem) : Type 0 where
 
 -- an item that a view shows: one with an empty memory
 abbrev pub machine_with : ℕ → List ℕ → Bool → Machine
-machine_with pc registers fresh = record { pc = pc; registers = registers; space = empty_space 0; fresh = fresh; reservation = None }
+machine_with pc registers fresh = record (at_start pc registers (empty_space 0)) { fresh = fresh }
 
 abbrev pub item_of : StepView → TraceItem
 item_of view = record {

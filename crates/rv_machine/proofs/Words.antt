@@ -1,9 +1,11 @@
 -- The words and the strings of a first stack: how many there are, and one more of them.
-use Rattle.std.proofs.Common.{◌≡◌, ℕ, ◌+◌, ◌-◌, ◌*◌, ◌<◌, ◌≤◌, List, [], ◌∷◌, ◌++◌, length, take, get_or, replicate, refl, sym, ap, ◌∙◌, append_assoc, arith, map, string_bytes, string_len, String, Global, slice_set, true, None}
+use Rattle.std.proofs.Common.{◌≡◌, ℕ, ◌+◌, ◌-◌, ◌*◌, ◌<◌, ◌≤◌, List, [], ◌∷◌, ◌++◌, length, take, get_or, replicate, refl, sym, ap, ◌∙◌, append_assoc, arith, map, string_bytes, string_len, String, Global, slice_set}
 use Rattle.std.specs.List.{flat_map}
 use Rattle.std.proofs.lemmas.List.{take_all, take_more, length-append, length-replicate, length-map, get_or-map}
 use Rattle.std.proofs.lemmas.List.Sums.{sum_by-cons, sum_by_more, sum_by_more_le}
 use Rattle.elf_load.specs.Image.{ImageFields}
+use Rattle.guest_model.specs.Descriptors.{Descriptors, all_closed}
+use Rattle.guest_model.specs.Machine.{at_start}
 use Rattle.guest_model.specs.Added.{with_area}
 use Rattle.guest_model.specs.Bytes.{low_bytes}
 use Rattle.guest_model.specs.Space.{Space}
@@ -112,8 +114,8 @@ length-stack image args few =
     )
 
 -- the machine, field by field
-pub machine_whole : (image : ImageFields) (args : List (List ℕ)) (entry pointer : ℕ) (space : Space) → entry ≡ image.entry → pointer ≡ stack_pointer_of args
+pub machine_whole : (image : ImageFields) (args : List (List ℕ)) (entry pointer : ℕ) (space : Space) (files : Descriptors) → entry ≡ image.entry → pointer ≡ stack_pointer_of args
     → space ≡ with_area (segments_space image.segments) stack_area (stack_pointer_of args) (first_stack image args)
-    → record { pc = entry; registers = slice_set (replicate 32 0) 2 pointer; space = space; fresh = true; reservation = None } ≡ machine_of image args
+    → files ≡ all_closed → record (at_start entry (slice_set (replicate 32 0) 2 pointer) space) { descriptors = files } ≡ machine_of image args
 unfolding machine_of
-machine_whole image args entry pointer space e f g = cc
+machine_whole image args entry pointer space files e f g h = cc

@@ -2,6 +2,7 @@
 use Rattle.std.specs.Prelude.{Bool, ◌≡◌, ℕ, ◌-◌, ◌<◌, ◌≤◌, ◌^◌, List, min, Result, Ok, Err, refl}
 use Rattle.std.specs.Coded.{Coded, coded_ℕ, coded_bool, coded_list, coded×, code_by}
 use Rattle.elf_load.specs.Image.{ImageFields}
+use Rattle.guest_model.specs.Descriptors.{Descriptors}
 use Rattle.guest_model.specs.Machine.{Machine, machine_code}
 use Rattle.guest_model.specs.declared.platform.TheConstants.{MOST_STRINGS}
 use Rattle.guest_mem.specs.Frames.{Frames, frames_code}
@@ -25,6 +26,10 @@ memory_of g = record { space = g.machine.space; frames = g.frames; origin = g.or
 -- the guest with another memory
 abbrev pub with_memory : GuestState → Memory → GuestState
 with_memory g memory = record { machine = record g.machine { space = memory.space }; frames = memory.frames; origin = memory.origin; changed = memory.changed }
+
+-- the guest with other files open
+abbrev pub with_descriptors : GuestState → Descriptors → GuestState
+with_descriptors g files = record g { machine = record g.machine { descriptors = files } }
 
 abbrev pub guest_code : Coded GuestState
 guest_code = code_by (Machine × (Frames × (List ℕ × List Bool))) (coded× machine_code (coded× frames_code (coded× (coded_list coded_ℕ) (coded_list coded_bool))))

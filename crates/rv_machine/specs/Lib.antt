@@ -1,3 +1,4 @@
+pub mod Slots
 pub mod Load
 pub mod Guest
 pub mod Step

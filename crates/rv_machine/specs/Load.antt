@@ -1,14 +1,14 @@
 -- The loaded program: the machine at position 0, from an image and the argument strings. Its segments lie where the file
 -- says (System V ABI, chapter 5, "Program Loading"), and its stack holds the strings and what names them (System V ABI,
 -- "Process Initialization"; Linux, getauxval(3)).
-use Rattle.std.specs.Prelude.{ℕ, ◌+◌, ◌-◌, ◌*◌, ◌/◌, List, [], ◌∷◌, ◌++◌, length, map, true, false, max, replicate, slice_set, sum_by, None}
+use Rattle.std.specs.Prelude.{ℕ, ◌+◌, ◌-◌, ◌*◌, ◌/◌, List, [], ◌∷◌, ◌++◌, length, map, true, false, max, replicate, slice_set, sum_by}
 use Rattle.std.specs.List.{flat_map, fold, range_with_len}
 use Rattle.elf_load.specs.Image.{ImageFields, SegmentFields, is_readable, is_writable, is_executable}
 use Rattle.guest_model.specs.Areas.{rounded_down, rounded_up}
 use Rattle.guest_model.specs.Bytes.{low_bytes}
 use Rattle.guest_model.specs.Space.{Space}
 use Rattle.guest_model.specs.Added.{empty_space, with_area}
-use Rattle.guest_model.specs.Machine.{Machine}
+use Rattle.guest_model.specs.Machine.{Machine, at_start}
 use Rattle.guest_model.specs.declared.Area.{Area}
 use Rattle.guest_model.specs.declared.platform.TheConstants.{PAGE_SIZE, RANDOM_SIZE, STACK_END, STACK_START}
 
@@ -89,10 +89,5 @@ abbrev pub first_registers : List (List ℕ) → List ℕ
 first_registers args = slice_set (replicate 32 0) 2 (stack_pointer_of args)
 
 unfoldable pub machine_of : ImageFields → List (List ℕ) → Machine
-machine_of image args = record {
-  pc = image.entry;
-  registers = first_registers args;
-  space = with_area (segments_space image.segments) stack_area (stack_pointer_of args) (first_stack image args);
-  fresh = true;
-  reservation = None;
-}
+machine_of image args =
+    at_start image.entry (first_registers args) (with_area (segments_space image.segments) stack_area (stack_pointer_of args) (first_stack image args))

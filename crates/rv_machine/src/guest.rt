@@ -1,17 +1,21 @@
 // The machine with its memory.
-ghost use Rattle.std.specs.Prelude.{◌≡◌, ◌<◌};
+ghost use Rattle.std.specs.Prelude.{◌≡◌, ◌<◌, ◌≤◌, length, None, Some, IsSome, MatchOption};
+ghost use Rattle.std.specs.Option.{option_map, is_some};
 ghost use Rattle.std.specs.Borrow.{sem};
 ghost use Rattle.guest_model.specs.Machine.{register, instruction_at};
 ghost use Rattle.guest_model.specs.Call.{finished};
-ghost use Rattle.rv_machine.specs.Guest.{memory_of};
+ghost use Rattle.guest_model.specs.Descriptors.{file_at, least_closed, opened_at, closed, advanced};
+ghost use Rattle.rv_machine.specs.Guest.{memory_of, with_descriptors};
 ghost use Rattle.rv_machine.specs.Lending.{LendsMemory};
 
+use crate::descriptors::Descriptors;
 use guest_mem::Space;
+use guest_model::platform::MOST_NAME;
 use rv_isa::Instr;
 use std::marker::Model;
 
 /// A guest's machine. Contracts see it as one value: pc, registers, memory, whether its last
-/// instruction ended a block, and the address that is reserved.
+/// instruction ended a block, the address that is reserved, and the open files.
 #[derive(Drop)]
 pub struct Guest {
     pub(crate) pc: u32,
@@ -19,6 +23,7 @@ pub struct Guest {
     pub(crate) memory: Space,
     pub(crate) fresh: bool,
     pub(crate) reservation: Option<u32>,
+    pub(crate) descriptors: Descriptors,
 }
 
 impl Model for Guest {
@@ -30,7 +35,14 @@ impl Model for Guest {
     ghost coded = { guest_code };
 
     ghost view = { λ g. record {
-      machine = record { pc = g.pc; registers = g.registers; space = g.memory.space; fresh = g.fresh; reservation = g.reservation };
+      machine = record {
+        pc = g.pc;
+        registers = g.registers;
+        space = g.memory.space;
+        fresh = g.fresh;
+        reservation = g.reservation;
+        descriptors = g.descriptors;
+      };
       frames = g.memory.frames;
       origin = g.memory.origin;
       changed = g.memory.changed;
@@ -76,6 +88,22 @@ impl Guest {
         self.reservation
     }
 
+    /// The place of the byte that is read next of the file that is open at a descriptor, modulo 2^64. None exactly where
+    /// the descriptor isn't open.
+    pub fn descriptor(&self, fd: u32) -> Option<u64>
+        ensures { result ≡ option_map (λ f. f.offset) (file_at self.now.machine.descriptors fd) }
+    {
+        self.descriptors.offset(fd)
+    }
+
+    /// The name of the file that is open at a descriptor. None exactly where the descriptor isn't open.
+    pub fn descriptor_name(&self, fd: u32) -> Option<&str>
+        ensures { MatchOption result (file_at self.now.machine.descriptors fd ≡ None)
+            (λ name. option_map (λ f. f.name) (file_at self.now.machine.descriptors fd) ≡ Some name.now) }
+    {
+        self.descriptors.name(fd)
+    }
+
     /// The instruction at pc. None where the fetch is denied or the word has no row in the table.
     pub fn peek(&self) -> Option<Instr>
         ensures { result ≡ instruction_at self.now.machine }
@@ -99,6 +127,33 @@ impl Guest {
         ensures memory { result.now ≡ memory_of self.old }
     {
         &mut self.memory
+    }
+
+    /// Opens the file of this name, of 1 to 255 bytes, at the least descriptor that is closed, from its first byte on,
+    /// and answers the descriptor. None, with no change, exactly where no descriptor is closed.
+    pub fn open_file(&mut self, name: &str) -> Option<u32>
+        requires some { 0 < length name.now }
+        requires few { length name.now ≤ MOST_NAME }
+        ensures number { result ≡ least_closed self.old.machine.descriptors }
+        ensures guest { self.new ≡ with_descriptors self.old (opened_at result name.now self.old.machine.descriptors) }
+    {
+        self.descriptors.open(name)
+    }
+
+    /// Closes a descriptor. False, with no change, exactly where it isn't open.
+    pub fn close_file(&mut self, fd: u32) -> bool
+        ensures open { result ≡ is_some (file_at self.old.machine.descriptors fd) }
+        ensures guest { self.new ≡ with_descriptors self.old (closed self.old.machine.descriptors fd) }
+    {
+        self.descriptors.close(fd)
+    }
+
+    /// The byte that is read next at an open descriptor is so many bytes further on, modulo 2^64.
+    pub fn advance(&mut self, fd: u32, by: u32)
+        requires { IsSome (file_at self.old.machine.descriptors fd) }
+        ensures { self.new ≡ with_descriptors self.old (advanced self.old.machine.descriptors fd by) }
+    {
+        self.descriptors.advance(fd, by);
     }
 
     /// Goes on behind the call at pc, with its result in x10. Nothing is reserved from then on.

@@ -1,6 +1,7 @@
 //! A guest: one hart of RV32IMA with its memory.
 #![tactic(auto)]
 
+mod descriptors;
 mod guest;
 mod load;
 mod snapshot;

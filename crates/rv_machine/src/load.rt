@@ -7,6 +7,7 @@ ghost use Rattle.rv_machine.specs.Load.{area_of, first_break, segments_space};
 ghost use Rattle.rv_machine.specs.Load.{strings_size};
 ghost use Rattle.rv_machine.specs.declared.load.LoadFault.TheVariants.{NoMemory};
 
+use crate::descriptors::Descriptors;
 use crate::guest::Guest;
 use crate::stack::{RANDOM, STACK, first_stack, stack_pointer};
 use elf_load::{Image, Segment};
@@ -64,6 +65,7 @@ impl Guest {
             memory: segments_space(alloc, image, frames)?,
             fresh: true,
             reservation: None,
+            descriptors: Descriptors::closed(),
         };
         guest.memory.add_area(STACK, pointer, &stack)?;
         Ok(guest)

@@ -6,6 +6,7 @@ ghost use Rattle.guest_model.specs.Machine.{register};
 ghost use Rattle.guest_mem.specs.Memory.{IsChangedWithin, all_bytes, free_frames};
 ghost use Rattle.rv_machine.specs.Snapshot.{guest_from};
 
+use crate::descriptors::Descriptors;
 use crate::guest::Guest;
 use guest_mem::{FrozenSpace, Space};
 use std::alloc::{AllocError, Global};
@@ -20,6 +21,7 @@ pub struct Snapshot {
     memory: FrozenSpace,
     fresh: bool,
     reservation: Option<u32>,
+    descriptors: Descriptors,
 }
 
 impl Model for Snapshot {
@@ -31,7 +33,14 @@ impl Model for Snapshot {
     ghost coded = { snapshot_code };
 
     ghost view = { λ s. record {
-      machine = record { pc = s.pc; registers = s.registers; space = s.memory.space; fresh = s.fresh; reservation = s.reservation };
+      machine = record {
+        pc = s.pc;
+        registers = s.registers;
+        space = s.memory.space;
+        fresh = s.fresh;
+        reservation = s.reservation;
+        descriptors = s.descriptors;
+      };
       changed = s.memory.changed;
     } };
 
@@ -96,6 +105,7 @@ impl Guest {
             memory,
             fresh: self.fresh,
             reservation: self.reservation,
+            descriptors: self.descriptors.copied(),
         })
     }
 
@@ -111,6 +121,7 @@ impl Guest {
             memory,
             fresh: from.fresh,
             reservation: from.reservation,
+            descriptors: from.descriptors.copied(),
         })
     }
 
@@ -125,6 +136,7 @@ impl Guest {
             && self.fresh == end.fresh
             && self.reservation == end.reservation
             && self.registers == end.registers
+            && self.descriptors.same(&end.descriptors)
             && self.memory.same_as(&base.memory, &end.memory)
     }
 }

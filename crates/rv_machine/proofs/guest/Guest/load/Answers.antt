@@ -53,7 +53,7 @@ returns c =
     ∙ ap (λ (a : ℕ). with_area (segments_space c.args.image.now.segments) stack_area a c.deref.result.now) (pointer_is before)
     ∙ ap (with_area (segments_space c.args.image.now.segments) stack_area (stack_pointer_of args)) (bytes_are before) in (
       few before,
-      machine_whole c.args.image.now args c.image.inside.entry c.stack_pointer-pointer.result c.add_area.new.self.space (ap (λ (image : ImageFields). image.entry) c.image.view_is) (pointer_is before) space,
+      machine_whole c.args.image.now args c.image.inside.entry c.stack_pointer-pointer.result c.add_area.new.self.space c.closed.result (ap (λ (image : ImageFields). image.entry) c.image.view_is) (pointer_is before) space c.closed.ensures,
       kept.frames ∙ given,
     )
 
