@@ -1,5 +1,5 @@
 -- What a host in memory has.
-use Rattle.std.specs.Prelude.{ℕ, List, [], ◌∷◌, map, drop, if◌then◌else◌, nat_eq, Some}
+use Rattle.std.specs.Prelude.{ℕ, Bool, false, true, List, [], ◌∷◌, map, drop, if◌then◌else◌, nat_eq, Some}
 use Rattle.std.specs.Prelude.{Vec, String, string_bytes}
 use Rattle.std.specs.Cmp.Lexicographic.{pointwise}
 use Rattle.std.specs.FinMap.{from_entries}
@@ -20,6 +20,11 @@ abbrev pub file_named : List (String Global × Vec ℕ Global) → List ℕ → 
 file_named [] name = []
 file_named (file ∷ files) name =
     if pointwise nat_eq (string_bytes file.0) name then file.1.items else file_named files name
+
+-- whether one has this name: whether that map has it
+abbrev pub is_named : List (String Global × Vec ℕ Global) → List ℕ → Bool
+is_named [] name = false
+is_named (file ∷ files) name = if pointwise nat_eq (string_bytes file.0) name then true else is_named files name
 
 -- what a tape has left
 abbrev pub tape_left : Tape → List ℕ

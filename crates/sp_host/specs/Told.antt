@@ -1,5 +1,5 @@
 -- What a host tells of the outside, each part optionally, and what a call does to it.
-use Rattle.std.specs.Prelude.{◌≡◌, ℕ, ◌<◌, ◌≤◌, List, [], ◌++◌, length, take, drop, max, Option, Some}
+use Rattle.std.specs.Prelude.{◌≡◌, ℕ, ◌<◌, ◌≤◌, Bool, List, [], ◌++◌, length, take, drop, max, Option, Some, is_some}
 use Rattle.std.specs.Prelude.{Result, Ok, Err}
 use Rattle.std.specs.Option.{option_map, unwrap_or}
 use Rattle.std.specs.Ordering.{nat_cmp}
@@ -15,6 +15,10 @@ Files = FinMap (slice_cmp nat_cmp) (List ℕ)
 -- the bytes of a file of this name. One that isn't there reads as empty.
 abbrev pub file_of : Files → List ℕ → List ℕ
 file_of files name = unwrap_or (get files name) []
+
+-- whether there is a file of this name
+abbrev pub has_file : Files → List ℕ → Bool
+has_file files name = is_some (get files name)
 
 pub record Told : Type 0 where
   pub files : Option Files

@@ -1,7 +1,7 @@
 // The outside as a trait. What a host tells of it is optional; how often calls failed is not.
 ghost use Rattle.std.specs.Prelude.{◌≡◌, ℕ, ◌<◌, ◌≤◌, ◌+◌, max, length, take, drop, slice_index};
 ghost use Rattle.std.specs.Prelude.{IfOk, MatchResult};
-ghost use Rattle.sp_host.specs.Told.{Told, WhereTold, file_of, Gives};
+ghost use Rattle.sp_host.specs.Told.{Told, WhereTold, file_of, has_file, Gives};
 ghost use Rattle.sp_host.specs.Told.{sent, input_taken, moment_taken, drawn_by};
 ghost use Rattle.sp_host.specs.Faults.{Faults, Counts};
 ghost use Rattle.sp_host.specs.Faults.Source.{File, Input, To};
@@ -63,6 +63,15 @@ pub trait Host {
         ensures faults { Counts File (faults self.old) (faults self.new) result }
         ensures reach { reach self.new ≤ max (reach self.old) (at + length buf.old) }
         ensures drawn { drawn self.new ≤ drawn self.old + drawn_by result };
+
+    /// Tells whether there is a file of this name that can be read.
+    fn has_file(&mut self, name: &str) -> Result<bool, Failed>
+        ensures value { IfOk result (λ found. WhereTold (told self.old).files (λ files.
+            found ≡ has_file files name.now)) }
+        ensures told { told self.new ≡ told self.old }
+        ensures faults { Counts File (faults self.old) (faults self.new) result }
+        ensures reach { reach self.new ≤ reach self.old }
+        ensures drawn { drawn self.new ≤ drawn self.old };
 
     /// Takes bytes from the front of the input into the front of `buf`, and answers how many.
     /// 0 is the end of the input.

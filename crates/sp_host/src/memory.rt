@@ -15,7 +15,7 @@ use std::alloc::{AllocError, Global};
 /// kind has number 1.
 #[derive(Drop)]
 pub struct FaultPlan {
-    /// Calls of [`Host::read_file`].
+    /// Calls of [`Host::read_file`] and [`Host::has_file`].
     pub file: Vec<u64>,
     /// Calls of [`Host::read_input`].
     pub input: Vec<u64>,
@@ -229,7 +229,7 @@ pub struct MemoryHost {
 
 impl MemoryHost {
     ghost use Rattle.std.specs.Prelude.{Some};
-    ghost use Rattle.sp_host.specs.Memory.{files_of, file_named};
+    ghost use Rattle.sp_host.specs.Memory.{files_of, file_named, is_named};
     ghost use Rattle.sp_host.specs.Memory.{memory_told, memory_faults, memory_reach, memory_drawn, memory_of};
     ghost use Rattle.sp_host.specs.Told.{file_of, written_to};
     ghost use Rattle.sp_host.specs.Faults.{no_faults};
@@ -304,6 +304,18 @@ impl MemoryHost {
         &[]
     }
 
+    // Whether a file has this name.
+    fn is_there(&self, name: &str) -> bool
+        ensures { result ≡ is_named self.now.files.items name.now }
+    {
+        for file in &self.files {
+            if file.0.as_str() == name {
+                return true;
+            }
+        }
+        false
+    }
+
     // The bytes of a file from byte `at` on.
     fn file_from(&self, name: &str, at: u64) -> &[u8]
         ensures { result.now ≡ drop at (file_of (files_of self.now.files.items) name.now) }
@@ -324,7 +336,7 @@ impl MemoryHost {
 }
 
 impl Host for MemoryHost {
-    ghost use Rattle.sp_host.specs.Told.{WhereTold, file_of, written_to};
+    ghost use Rattle.sp_host.specs.Told.{WhereTold, file_of, has_file, written_to};
     ghost use Rattle.sp_host.specs.Told.{sent, input_taken, moment_taken, drawn_by};
     ghost use Rattle.sp_host.specs.Faults.{Counts};
     ghost use Rattle.sp_host.specs.Faults.Source.{File, Input, To};
@@ -368,6 +380,22 @@ impl Host for MemoryHost {
         let count = copy_front(self.file_from(name, at), most, buf);
         self.drawn = self.drawn.saturating_add(count.max(1) as u64);
         Ok(count)
+    }
+
+    fn has_file(&mut self, name: &str) -> Result<bool, Failed>
+        ensures value { IfOk result (λ found. WhereTold (memory_told self.old).files (λ files.
+            found ≡ has_file files name.now)) }
+        ensures told { memory_told self.new ≡ memory_told self.old }
+        ensures faults { Counts File (memory_faults self.old) (memory_faults self.new) result }
+        ensures reach { memory_reach self.new ≤ memory_reach self.old }
+        ensures drawn { memory_drawn self.new ≤ memory_drawn self.old }
+
+        // as the plan says
+        ensures failed { IsErr result ↔ IsPlanned File (memory_of self.old) }
+        ensures calls { memory_of self.new ≡ call_made File (memory_of self.old) }
+    {
+        self.file_meter.call()?;
+        Ok(self.is_there(name))
     }
 
     fn read_input(&mut self, buf: &mut [u8]) -> Result<usize, Failed>

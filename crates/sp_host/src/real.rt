@@ -4,7 +4,7 @@ ghost use Rattle.sp_host.specs.Faults.{Faulted, no_faults};
 ghost use Rattle.sp_host.specs.Faults.Source.{To};
 
 use crate::{Failed, Host, Port};
-use std::fs::File;
+use std::fs::{File, Metadata};
 use std::io::{ErrorKind, Read, Seek, SeekFrom};
 use std::time::{Clock, SystemTime, UNIX_EPOCH};
 use std::{fs, io};
@@ -25,7 +25,8 @@ struct OpenFile {
 /// The system. It counts the calls that fail, and tells nothing.
 ///
 /// A file stays open between two reads where the second goes on with the name of the first, until a
-/// read meets its end or fails. A read that goes on where the last one ended does not seek, so a
+/// read meets its end or fails; one that was found by its name stays open, too. Only a regular file
+/// is found, and only where the user may read it. A read that goes on where the last one ended does not seek, so a
 /// pipe can be read from its start to its end. A call that a signal interrupts is made again, and
 /// is no fault.
 ///
@@ -86,6 +87,18 @@ impl StdHost {
         }
         Ok(count)
     }
+
+    // Whether there is a regular file of this name; it is opened, and stays so. What is no regular file is not opened:
+    // a pipe would wait until something writes to it, and gives its bytes only once.
+    fn find(&mut self, name: &str) -> io::Result<bool>
+        ensures { real_faults self.new ≡ real_faults self.old }
+    {
+        if !metadata(&self.rt, name)?.is_file() {
+            return Ok(false);
+        }
+        self.open = Some(OpenFile::open(&self.rt, name)?);
+        Ok(true)
+    }
 }
 
 impl OpenFile {
@@ -139,6 +152,26 @@ fn open(rt: &HostRuntime, name: &str) -> io::Result<File> {
     Err(ErrorKind::Interrupted.into())
 }
 
+// What the system says of a file, again where a signal interrupts that.
+fn metadata(rt: &HostRuntime, name: &str) -> io::Result<Metadata> {
+    for _ in 0..u64::MAX {
+        let known = fs::metadata(rt, name);
+        if !is_interrupted(&known) {
+            return known;
+        }
+    }
+    Err(ErrorKind::Interrupted.into())
+}
+
+// Whether the reason is that no file of the name is there to be read: there is none, the path leads through something that
+// is no folder, or the user may not read it.
+fn is_absence(reason: &io::Error) -> bool {
+    match reason.kind() {
+        ErrorKind::NotFound | ErrorKind::NotADirectory | ErrorKind::PermissionDenied => true,
+        _ => false,
+    }
+}
+
 // Reads once, again where a signal interrupts that.
 fn read<R: Read>(reader: &mut R, buf: &mut [u8]) -> io::Result<usize>
     ensures { IfOk result (λ n. n ≤ length buf.new) }
@@ -187,6 +220,18 @@ impl Host for StdHost {
         match self.read_open(name, at, buf) {
             Ok(n) => Ok(n),
             Err(_) => Err(Failed::counted(&mut self.file_faults)),
+        }
+    }
+
+    fn has_file(&mut self, name: &str) -> Result<bool, Failed> {
+        match self.find(name) {
+            Ok(found) => Ok(found),
+            Err(reason) => {
+                if is_absence(&reason) {
+                    return Ok(false);
+                }
+                Err(Failed::counted(&mut self.file_faults))
+            }
         }
     }
 

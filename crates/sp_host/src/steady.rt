@@ -4,7 +4,7 @@ ghost use Rattle.std.specs.Prelude.{◌≡◌, ◌≤◌, vec_len, Some, None};
 use crate::memory::Tape;
 use crate::{Failed, Host, Port};
 
-/// A host that never fails. It has no file, so each name reads as an empty one. Its input and its
+/// A host that never fails. It has no file; each name reads as an empty one. Its input and its
 /// moments, in nanoseconds since 1970, are told, and what is written to it is neither kept nor
 /// told.
 #[derive(Drop)]
@@ -51,6 +51,10 @@ impl Host for SteadyHost {
 
     fn read_file(&mut self, _name: &str, _at: u64, _buf: &mut [u8]) -> Result<usize, Failed> {
         Ok(0)
+    }
+
+    fn has_file(&mut self, _name: &str) -> Result<bool, Failed> {
+        Ok(false)
     }
 
     fn read_input(&mut self, buf: &mut [u8]) -> Result<usize, Failed> {

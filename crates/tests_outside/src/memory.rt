@@ -171,3 +171,19 @@ fn writes_as_planned(rt: HostRuntime) -> Result<(), Fail> {
     assert!(rt; host.written(Port::Report) == b"abc".as_slice());
     Ok(())
 }
+
+#[test]
+fn tells_which_files_are_there(rt: HostRuntime) -> Result<(), Fail> {
+    let mut plan = FaultPlan::new(rt.alloc(), 8, 8);
+    plan.file = [4, 6].to_vec(rt.alloc())?;
+    let mut host = host_with(rt.alloc(), plan)?;
+    assert!(rt; host.has_file("words") == Ok(true) && host.has_file("empty") == Ok(true));
+    assert!(rt; host.has_file("word") == Ok(false));
+    // reads count with them
+    assert!(rt; host.has_file("words").is_err() && host.has_file("") == Ok(false));
+    let mut part = [0u8; 8];
+    assert!(rt;
+        host.read_file("words", 0, &mut part).is_err() && host.has_file("words") == Ok(true)
+    );
+    Ok(())
+}

@@ -20,6 +20,7 @@ fn reads_its_input_and_no_file(rt: HostRuntime) -> Result<(), Fail> {
             "file {k}"
         );
     }
+    assert!(rt; host.has_file("words") == Ok(false));
     for (k, moment) in [7, 9, 0, 0].iter().enumerate() {
         assert!(rt; host.now() == *moment, "moment {k}");
     }

@@ -19,8 +19,15 @@ fn reads_files(rt: HostRuntime) -> Result<(), Fail> {
     let middle = host.read_file(name, 5, &mut part).ok() == Some(4) && part == *b"word";
     let on = host.read_file(name, 9, &mut part).ok() == Some(1) && part[0] == b's';
     let back = host.read_file(name, 0, &mut part).ok() == Some(4) && part == *b"some";
+    let there = host.has_file(name) == Ok(true)
+        && host.read_file(name, 6, &mut part).ok() == Some(4);
     let end = host.read_file(name, 10, &mut part).ok() == Some(0);
+    let through_a_file = host.has_file("sp_host_test.txt/x");
     fs::remove_file(&rt, name)?;
+    assert!(rt; there && through_a_file == Ok(false));
+    // what is no file, and no longer one
+    assert!(rt; host.has_file(".") == Ok(false) && host.has_file("/dev/zero") == Ok(false));
+    assert!(rt; host.has_file(name) == Ok(false) && host.has_file("") == Ok(false));
     assert!(rt; whole.is_ok_and(|bytes| bytes.as_slice() == b"some words".as_slice()));
     assert!(rt; middle && on && back && end);
     assert!(rt; host.read_file(name, 0, &mut part).is_err());
