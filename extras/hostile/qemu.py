@@ -103,7 +103,7 @@ def end(rng):
         [*place(word_of_data(rng) + rng.randrange(1, 4)), atomic(rng, rng.choice((change, elf.LR)))],
         [*place(0x40), atomic(rng, rng.choice((change, elf.LR)))],
         [*place(elf.TEXT), atomic(rng, change)],
-        [*place(elf.TEXT), atomic(rng, elf.LR), atomic(rng, elf.SC) & ~0xf80 | 5 << 7],
+        [*place(elf.TEXT), atomic(rng, elf.LR) & ~0xf80 | 6 << 7, atomic(rng, elf.SC) & ~0xf80 | 5 << 7],
         [*place(DATA), elf.atomic(rng.choice((5, 6, 7, 9, 17, 31)), 0, PLACE, 5)],
         [*place(DATA), elf.atomic(elf.LR, 0, PLACE, 5) | rng.randrange(1, 32) << 20],
         [*place(DATA), elf.atomic(change, 6, PLACE, 5) ^ rng.choice((1, 3, 4, 5)) << 12]))
