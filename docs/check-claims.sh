@@ -7,8 +7,9 @@
 # modules or the type where the call stands, if any, the call, and the names of clauses of its contract. In place of names
 # there may be `ensures`, for a contract with one clause that has no name, and behind a type `invariant`, for the type's own.
 # The sources are read as `rt fmt` lays them out. The script reads and proves nothing: it shows that the names are there. It
-# prints each that is not, and the numbers of both. Then it has `what-to-believe.py` compare the files that a reader must
-# believe with those that the page lists. It is no part of the gate.
+# prints each that is not, and the numbers of both in the last line. Before, it has `what-to-believe.py` compare the files that a
+# reader must believe with those that the page lists, and `check-plants.py` find wrong bodies that no longer fit the code. It is
+# no part of the gate.
 set -eu
 export LC_ALL=C
 
@@ -55,6 +56,8 @@ find "$top/crates" -path '*/src/*.rt' -type f | while read -r file; do
 done >"$folder/clauses"
 
 status=0
+"$top/docs/what-to-believe.py" "$claims" >/dev/null || status=1
+"$top/docs/check-plants.py" >"$folder/plants" || { status=1; cat "$folder/plants"; }
 awk -F '\t' '
     # Tells whether the head of an impl or a trait names the type, where a type is wanted.
     function is_of(head, type) { return type == "" || head ~ ("(^|[^A-Za-z0-9_])" type "($|[^A-Za-z0-9_])") }
@@ -93,6 +96,4 @@ awk -F '\t' '
         exit failed > 0
     }
 ' "$folder/clauses" "$claims" || status=1
-
-"$top/docs/what-to-believe.py" "$claims" >/dev/null || status=1
 exit $status
