@@ -4,8 +4,8 @@
     docs/check-plants.py
 
 Each edit of plants/NAME/ and of crates/NAME/must-fail/ names a file of the crate by `file: PATH`, and then pairs of lines,
-`old: TEXT` and `new: TEXT`. An old text stands in its file exactly once, after the pairs before it were applied. The script prints each edit for which that is not so,
-and then the numbers of those that fit and of all others. It tries none of them."""
+`old: TEXT` and `new: TEXT`. An old text stands in its file exactly once, after the pairs before it were applied. The script
+prints each edit for which that is not so, and then the numbers of those that fit and of all others. It tries none of them."""
 import pathlib
 import sys
 

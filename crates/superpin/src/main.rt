@@ -1,4 +1,4 @@
-//! `superpin` runs a static RV32IMA Linux program under a tool, serially or in slices side by side, and writes the tool's report.
+//! `superpin` runs a static RV32IM Linux program and reports how many instructions it executed.
 #![tactic(auto)]
 
 use std::process::ExitCode;

@@ -1,5 +1,5 @@
-//! `superpin_live` runs a static RV32IMA Linux program under a tool, and writes the tool's report: its workers repeat the
-//! program's slices while it still runs.
+//! `superpin_live` runs a static RV32IM Linux program, and reports how many instructions it executed: its workers count while
+//! the program still runs.
 #![tactic(auto)]
 
 use std::process::ExitCode;
